@@ -8,10 +8,8 @@ use yaml_scan::{yaml_decode, yaml_parser_scan, yaml_parser_t, yaml_token_t, yaml
 // The first `#` of a text from one byte up to another one.
 fn hash_between(text: &[u8], from: u64, to: u64) -> Option<u64> {
     let part = text.get(from as usize..to as usize).unwrap_or(b"");
-    match part.iter().position(|byte| *byte == b'#') {
-        Some(at) => Some(from.saturating_add(at as u64)),
-        None => None,
-    }
+    let at = part.iter().position(|byte| *byte == b'#')?;
+    Some(from.saturating_add(at as u64))
 }
 
 // The `#` of a comment in the head of a block scalar, whose text is handed in from its indicator on.
@@ -36,36 +34,30 @@ fn hash_before(text: &[u8], end: u64, token: &yaml_token_t) -> Option<u64> {
     if found.is_some() || token.type_() != yaml_token_type_t::YAML_SCALAR_TOKEN {
         return found;
     }
-    match hash_in_head(text.get(start as usize..).unwrap_or(b"")) {
-        Some(at) => Some(start.saturating_add(at)),
-        None => None,
+    let at = hash_in_head(text.get(start as usize..).unwrap_or(b""))?;
+    Some(start.saturating_add(at))
+}
+
+// The first `#` of a comment in the tokens that come.
+fn hash_from(session: &mut yaml_parser_t<'_>, text: &[u8]) -> Result<Option<u64>, yaml_fault_t> {
+    let mut end = 0u64;
+    for _ in 0..u64::MAX {
+        let token = yaml_parser_scan(session)?;
+        let hash = hash_before(text, end, &token);
+        if hash.is_some() || token.type_() == yaml_token_type_t::YAML_NO_TOKEN {
+            return Ok(hash);
+        }
+        end = end.max(token.end_mark.index);
     }
+    Ok(None)
 }
 
 // The byte at which the first comment of a text begins.
 fn first_hash(alloc: Global, text: &[u8]) -> Result<Option<u64>, yaml_fault_t> {
     let mut session = yaml_parser_t::new(alloc, text, yaml_encoding_t::YAML_UTF8_ENCODING);
-    let mut end = 0u64;
-    let mut found = Ok(None);
-    for _ in 0..u64::MAX {
-        match yaml_parser_scan(&mut session) {
-            Ok(token) => {
-                let hash = hash_before(text, end, &token);
-                let is_last = token.type_() == yaml_token_type_t::YAML_NO_TOKEN;
-                end = end.max(token.end_mark.index);
-                if hash.is_some() || is_last {
-                    found = Ok(hash);
-                    break;
-                }
-            }
-            Err(fault) => {
-                found = Err(fault);
-                break;
-            }
-        }
-    }
+    let answer = hash_from(&mut session, text);
     drop(session);
-    found
+    answer
 }
 
 /// The place of the first comment of an input, where it has one, or the fault of its bytes or tokens.
@@ -74,18 +66,12 @@ pub(crate) fn first_comment(
     from: yaml_encoding_t,
     input: &[u8],
 ) -> Result<Option<yaml_mark_t>, yaml_fault_t> {
-    let text = match yaml_decode(alloc, input, from) {
-        Ok(text) => text,
-        Err(fault) => return Err(fault),
-    };
+    let text = yaml_decode(alloc, input, from)?;
     let source = Source {
         name: "",
         input: text.as_slice(),
         from: yaml_encoding_t::YAML_UTF8_ENCODING,
     };
-    match first_hash(alloc, source.input) {
-        Ok(Some(at)) => Ok(Some(place_of_byte(source, at))),
-        Ok(None) => Ok(None),
-        Err(fault) => Err(fault),
-    }
+    let hash = first_hash(alloc, source.input)?;
+    Ok(hash.map(|at| place_of_byte(source, at)))
 }

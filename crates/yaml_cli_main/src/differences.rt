@@ -10,7 +10,7 @@ use yaml_cli_program::{Cause, Difference, Met, Step, push_step};
 use yaml_round::{
     yaml_difference_t, yaml_differences_t, yaml_document_difference_t, yaml_document_get_node,
     yaml_document_t, yaml_event_type_t, yaml_mark_t, yaml_node_body_t, yaml_node_cause_t,
-    yaml_node_difference_t, yaml_node_match_t, yaml_node_t,
+    yaml_node_difference_t, yaml_node_t,
 };
 
 // What a text doesn't have is after all that it has.
@@ -30,23 +30,6 @@ fn node_cause_of(cause: yaml_node_cause_t) -> Cause
         yaml_node_cause_t::KeyOrder => Cause::KeyOrder,
         yaml_node_cause_t::OnlyFirst => Cause::OnlyFirst,
         yaml_node_cause_t::OnlySecond => Cause::OnlySecond,
-    }
-}
-
-// What a document has at a difference: a node, something that this holds, or nothing, at its end.
-#[derive(Clone, Copy)]
-enum At {
-    Node,
-    Held,
-    End,
-}
-
-// What the first document has, and the second.
-fn both_at(cause: yaml_node_cause_t) -> (At, At) {
-    match cause {
-        yaml_node_cause_t::OnlyFirst => (At::Held, At::End),
-        yaml_node_cause_t::OnlySecond => (At::End, At::Held),
-        _ => (At::Node, At::Node),
     }
 }
 
@@ -116,34 +99,24 @@ fn met_end(document: &yaml_document_t, holder: i32) -> Met {
     }
 }
 
-// What one of two documents has at a difference.
-fn met_in(document: Option<&yaml_document_t>, id: i32, place: usize, at: At) -> Met {
-    match (document, at) {
+// What one of two documents has at a difference; that cause says that it alone has something.
+fn met_in(
+    document: Option<&yaml_document_t>,
+    id: i32,
+    told: yaml_node_difference_t,
+    alone: yaml_node_cause_t,
+) -> Met {
+    match (document, told.cause) {
         (None, _) => Met {
             start: NOWHERE,
             end: NOWHERE,
             kind: yaml_event_type_t::YAML_NO_EVENT,
         },
-        (Some(document), At::Node) => met_by(document, id),
-        (Some(document), At::Held) => met_held(document, id, place),
-        (Some(document), At::End) => met_end(document, id),
-    }
-}
-
-// Adds the steps to a difference of two documents.
-fn push_steps(
-    alloc: Global,
-    path: &mut String,
-    told: yaml_node_difference_t,
-    pairs: &[yaml_node_match_t],
-    first: &yaml_document_t,
-    second: &yaml_document_t,
-) -> Result<(), AllocError> {
-    push_way(alloc, path, first, pairs, told.pair)?;
-    match told.cause {
-        yaml_node_cause_t::OnlyFirst => push_held(path, first, told.first, told.place),
-        yaml_node_cause_t::OnlySecond => push_held(path, second, told.second, told.place),
-        _ => Ok(()),
+        (Some(document), cause) if cause == alone => met_held(document, id, told.place),
+        (Some(document), yaml_node_cause_t::OnlyFirst | yaml_node_cause_t::OnlySecond) => {
+            met_end(document, id)
+        }
+        (Some(document), _) => met_by(document, id),
     }
 }
 
@@ -153,15 +126,23 @@ fn path_to(
     told: yaml_document_difference_t,
     documents: &yaml_differences_t,
 ) -> Result<String, AllocError> {
-    let number = told.document;
+    let yaml_document_difference_t {
+        document: at,
+        difference: node,
+    } = told;
     let mut path = String::new(alloc);
-    push_step(&mut path, Step::Item(number as u64))?;
+    push_step(&mut path, Step::Item(at as u64))?;
     if let (Some(pairs), Some(first), Some(second)) = (
-        documents.pairs.get(number),
-        documents.first.get(number),
-        documents.second.get(number),
+        documents.pairs.get(at),
+        documents.first.get(at),
+        documents.second.get(at),
     ) {
-        push_steps(alloc, &mut path, told.difference, pairs, first, second)?;
+        push_way(alloc, &mut path, first, pairs, node.pair)?;
+        match node.cause {
+            yaml_node_cause_t::OnlyFirst => push_held(&mut path, first, node.first, node.place)?,
+            yaml_node_cause_t::OnlySecond => push_held(&mut path, second, node.second, node.place)?,
+            _ => {}
+        }
     }
     Ok(path)
 }
@@ -178,12 +159,11 @@ fn shown(
     let first = documents.first.get(told.document);
     let second = documents.second.get(told.document);
     let path = path_to(alloc, told, documents)?;
-    let (own, others) = both_at(node.cause);
     Ok(Difference {
         path: Some(path),
         cause: node_cause_of(node.cause),
-        first: met_in(first, node.first, node.place, own),
-        second: met_in(second, node.second, node.place, others),
+        first: met_in(first, node.first, node, yaml_node_cause_t::OnlyFirst),
+        second: met_in(second, node.second, node, yaml_node_cause_t::OnlySecond),
     })
 }
 

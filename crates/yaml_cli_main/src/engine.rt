@@ -103,21 +103,22 @@ fn found_by(
     }
 }
 
+// A key as it is reported.
+fn shown_key(key: yaml_same_key_t) -> RepeatedKey
+    ensures { result ≡ shown_key key }
+{
+    RepeatedKey {
+        mark: key.mark,
+        end_mark: key.end_mark,
+        first_mark: key.first_mark,
+    }
+}
+
 // The keys as they are reported.
-#[tactic(auto, using(crate::proofs::Shown::none_shown))]
 fn shown_keys(alloc: Global, keys: &[yaml_same_key_t]) -> Result<Vec<RepeatedKey>, AllocError>
     ensures { IfOk result (λ shown. shown.items ≡ map shown_key keys.now) }
 {
-    let mut shown = Vec::new(alloc);
-    for place in 0..keys.len() {
-        let key = keys[place];
-        shown.push(RepeatedKey {
-            mark: key.mark,
-            end_mark: key.end_mark,
-            first_mark: key.first_mark,
-        })?;
-    }
-    Ok(shown)
+    keys.iter().map(|key| shown_key(*key)).collect(alloc)
 }
 
 impl Engine for Rounds {

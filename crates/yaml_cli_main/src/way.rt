@@ -6,10 +6,7 @@ use yaml_round::{yaml_document_get_node, yaml_document_t, yaml_node_body_t, yaml
 
 /// What a node is, if there is one of that number.
 pub(crate) fn body_of(document: &yaml_document_t, id: i32) -> Option<&yaml_node_body_t> {
-    match yaml_document_get_node(document, id) {
-        Some(node) => Some(&node.body),
-        None => None,
-    }
+    Some(&yaml_document_get_node(document, id)?.body)
 }
 
 // The step to the value of a pair, by its key.

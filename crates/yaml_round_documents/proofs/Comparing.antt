@@ -13,6 +13,7 @@ use Rattle.yaml_round_documents.specs.Matching.{matched, numbered, place_from}
 use Rattle.yaml_round_documents.specs.Pairs.{AreReached, ComparedAt, IsAmong, IsOneOf, held_pairs, held_values, key_labels, pair_with, pairs_by, roots}
 use Rattle.yaml_round_documents.specs.Differences.{AreDifferences, own_cause, told_cause, told_held, told_in, told_of}
 use Rattle.yaml_round_documents.specs.Steps.{Begins, Compares, ComparesAll, ComparesPair, ComparesTo, IsWalk, Meets, Pushes, PushesOn, first_of, second_of}
+use Rattle.yaml_round_documents.proofs.Numbering.{numbered_many}
 use Rattle.yaml_round_documents.proofs.Walking.{either, in_front, pushes_none}
 
 -- ---- a pair
@@ -61,10 +62,6 @@ unlike_compared nodes others labels i p w before now k n h =
     }
 
 -- ---- as many partners as there are labels
-
-numbered_many : (before labels : List ℕ) → length (numbered before labels) ≡ length labels
-numbered_many before [] = refl
-numbered_many before (l ∷ labels) = ap suc (numbered_many (before ++ l ∷ []) labels)
 
 pub matched_many : (own others : List ℕ) (partners : List (Option ℕ)) (n : ℕ)
     → partners ≡ matched own others → length own ≡ n → length partners ≡ n

@@ -87,7 +87,7 @@ none_behind : (R : ℤ → ℤ → Type 0) (before : List ℤ) → Each (λ f. E
 none_behind R [] = tt
 none_behind R (f ∷ before) = (tt, none_behind R before)
 
-no_front : (xs ys : List yaml_same_key_t) → xs ++ ys ≡ [] → (xs ≡ []) × (ys ≡ [])
+pub no_front : {A : Type 0} (xs ys : List A) → xs ++ ys ≡ [] → (xs ≡ []) × (ys ≡ [])
 no_front [] ys e = (refl, e)
 no_front (x ∷ xs) ys e = absurd (cc)
 

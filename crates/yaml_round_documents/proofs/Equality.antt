@@ -2,8 +2,7 @@
 use Rattle.std.proofs.Common.{◌≡◌, ℕ, zero, suc, ℤ, pos, Bool, true, false, cond, List, [], ◌∷◌, ◌++◌, length, map, Option, Some, None, refl, sym, subst, ◌∙◌, ap, inl, inr, arith, append_assoc}
 use Rattle.std.specs.Prelude.{◌↔◌, ◌==◌, nat_eq, slice_get}
 use Rattle.std.specs.Cmp.Lexicographic.{pointwise}
-use Rattle.std.proofs.lemmas.Bool.{cases_eq}
-use Rattle.std.proofs.lemmas.Bool.Decides.{nat_tests}
+use Rattle.std.proofs.lemmas.Bool.{cases_eq, eq-eqb, eqb-true}
 use Rattle.std.proofs.lemmas.Slice.Eq.{bytes_eq-Decides}
 use Rattle.yaml_parse_model.specs.declared.yaml_node_pair_t.{yaml_node_pair_t}
 use Rattle.yaml_parse_model.specs.Nodes.{Node, NodeBody, type_of}
@@ -22,6 +21,8 @@ use Rattle.yaml_round_documents.specs.Pairs.{ComparedAt, IsCompared, IsOneOf, he
 use Rattle.yaml_round_documents.specs.Differences.{AreDifferences, order_cause, own_cause, told_alone, told_cause, told_held, told_in, told_of}
 use Rattle.yaml_round_documents.specs.Equal.{AreEqual, EqualTo}
 use Rattle.yaml_round_documents.proofs.Holding.{as_many, body_sound, held_sound}
+use Rattle.yaml_round_documents.proofs.Distinct.{no_front}
+use Rattle.yaml_round_documents.proofs.Numbering.{numbered_many}
 use Rattle.yaml_round_documents.proofs.Matches.{matched_itself, same_labels, somes, somes_in_order, somes_not_alone}
 
 -- ---- one by one
@@ -131,16 +132,6 @@ pairs_zipped front (x ∷ xs) (y ∷ ys) (m ∷ names) e n =
     ap (λ o. pair_at 0 at x (front ++ y ∷ ys) (Some at) ++ o) same
     ∙ ap (λ o. pair_with 0 at x o ++ zipped (suc at) xs ys) (got_at front ys y)
 
-numbered_many : (before labels : List ℕ) → length (numbered before labels) ≡ length labels
-numbered_many before [] = refl
-numbered_many before (l ∷ labels) = ap suc (numbered_many (before ++ l ∷ []) labels)
-
-kind_test : (n m : ℕ) → n ≡ m → (n == m) ≡ true
-kind_test n m e = grind (arith, nat_tests)
-
-kind_is : (n m : ℕ) → (n == m) ≡ true → n ≡ m
-kind_is n m e = grind (arith, nat_tests)
-
 -- where the labels are the same, what both hold is matched one by one
 held_zipped : (f g : ℤ → ℕ) (b c : NodeBody) → kind_of b ≡ kind_of c
     → key_labels f b ≡ key_labels g c
@@ -150,7 +141,7 @@ held_zipped f g b c k e =
     let names = numbered [] (key_labels g c) in
     let many : length names ≡ length (held_values b) = numbered_many [] (key_labels g c) ∙ as_many g c ∙ sym sized in (
       sized,
-      ap (λ t. cond t (pairs_by 0 0 (held_values b) (held_values c) (matched (key_labels f b) (key_labels g c))) []) (kind_test (kind_of b) (kind_of c) k)
+      ap (λ t. cond t (pairs_by 0 0 (held_values b) (held_values c) (matched (key_labels f b) (key_labels g c))) []) (eq-eqb (kind_of b) (kind_of c) k)
           ∙ ap (λ l. pairs_by 0 0 (held_values b) (held_values c) (matched l (key_labels g c))) e
           ∙ ap (λ ps. pairs_by 0 0 (held_values b) (held_values c) ps) (matched_itself (key_labels g c))
           ∙ pairs_zipped [] (held_values b) (held_values c) names sized many,
@@ -213,7 +204,7 @@ agree_labels f g P go _ _ k h e = absurd (omega arith)
 seem_cause : (b c : NodeBody) (t u : List ℕ) → kind_of b ≡ kind_of c → text_of b ≡ text_of c → t ≡ u
     → own_cause b c t u ≡ None
 seem_cause b c t u k x e =
-    let i = kind_test (kind_of b) (kind_of c) k in
+    let i = eq-eqb (kind_of b) (kind_of c) k in
     let j = (bytes_eq-Decides (text_of b) (text_of c)).1 x in
     let l = (bytes_eq-Decides t u).1 e in
     ap (λ z. cond z (cond (pointwise nat_eq (text_of b) (text_of c)) (cond (pointwise nat_eq t u) None (Some Tag)) (Some Value)) (Some Kind)) i
@@ -234,14 +225,10 @@ cause_seem b c t u e =
             | false ↦ λ j k. absurd (cc)
             | true ↦ λ j k. elim (pointwise nat_eq t u) as (λ z. pointwise nat_eq t u ≡ z → cond z None (Some Tag) ≡ None → Alike b c t u) [
               | false ↦ λ l m. absurd (cc)
-              | true ↦ λ l m. (kind_is (kind_of b) (kind_of c) i, (bytes_eq-Decides (text_of b) (text_of c)).0 j, (bytes_eq-Decides t u).0 l)
+              | true ↦ λ l m. (eqb-true (kind_of b) (kind_of c) i, (bytes_eq-Decides (text_of b) (text_of c)).0 j, (bytes_eq-Decides t u).0 l)
             ] refl k
           ] refl h
     ] refl e
-
-no_front : {A : Type 0} (xs ys : List A) → xs ++ ys ≡ [] → (xs ≡ []) × (ys ≡ [])
-no_front [] ys e = (refl, e)
-no_front (x ∷ xs) ys e = absurd (cc)
 
 no_cause : (n : ℕ) (p : Pair) (o : Option yaml_node_cause_t) → told_cause n p o ≡ [] → o ≡ None
 no_cause n p None e = refl
@@ -282,7 +269,7 @@ untold f g nodes others n a b e =
     let y = body_of_id others b in
     let parts = no_front (told_cause n p (own_cause x y (tag_of_id nodes a) (tag_of_id others b))) (cond (kind_of x == kind_of y) (told_held n p (key_labels f x) (key_labels g y)) []) e in
     let alike = cause_seem x y (tag_of_id nodes a) (tag_of_id others b) (no_cause n p (own_cause x y (tag_of_id nodes a) (tag_of_id others b)) parts.0) in
-    let held : told_held n p (key_labels f x) (key_labels g y) ≡ [] = subst (λ t. cond t (told_held n p (key_labels f x) (key_labels g y)) [] ≡ []) (kind_test (kind_of x) (kind_of y) alike.0) parts.1 in
+    let held : told_held n p (key_labels f x) (key_labels g y) ≡ [] = subst (λ t. cond t (told_held n p (key_labels f x) (key_labels g y)) [] ≡ []) (eq-eqb (kind_of x) (kind_of y) alike.0) parts.1 in
     (alike, held_same n p (key_labels f x) (key_labels g y) held)
 
 nothing_told : (f g : ℤ → ℕ) (nodes others : List Node) (n : ℕ) (p : Pair)
@@ -293,7 +280,7 @@ nothing_told f g nodes others n p h =
     let y = body_of_id others p.second in
     let own = seem_cause x y (tag_of_id nodes p.first) (tag_of_id others p.second) h.0.0 h.0.1 h.0.2 in
     ap (λ o. told_cause n p o ++ cond (kind_of x == kind_of y) (told_held n p (key_labels f x) (key_labels g y)) []) own
-    ∙ ap (λ t. cond t (told_held n p (key_labels f x) (key_labels g y)) []) (kind_test (kind_of x) (kind_of y) h.0.0)
+    ∙ ap (λ t. cond t (told_held n p (key_labels f x) (key_labels g y)) []) (eq-eqb (kind_of x) (kind_of y) h.0.0)
     ∙ ap (λ l. told_held n p l (key_labels g y)) h.1 ∙ same_held n p (key_labels g y)
 
 -- ---- all pairs

@@ -72,7 +72,7 @@ held_sound count (node.scalar v s) h = (tt, tt)
 held_sound count (node.sequence v s) h = (tt, h)
 held_sound count (node.mapping v s) h = pair_sound count v h
 
-one_number : (count : ℕ) (a : ℤ) → IsId count a → pos 1 ≤ℤ a
+pub one_number : (count : ℕ) (a : ℤ) → IsId count a → pos 1 ≤ℤ a
 one_number count (pos (suc k)) v = omega (arith, ints)
 one_number count (pos zero) v = absurd v
 one_number count (negsuc k) v = absurd v

@@ -1,8 +1,11 @@
 -- Loops over what a node holds, and over nodes.
-use Rattle.std.proofs.Common.{◌≡◌, ℕ, zero, suc, ◌+◌, ◌<◌, ◌≤◌, ℤ, refl, get_or, drop, add-one, Bool, true, false, List, [], ◌∷◌, ◌++◌, length, map, sym, subst, ◌∙◌, ap, arith, append_assoc, append-nil}
+use Rattle.std.proofs.Common.{◌≡◌, ℕ, suc, ◌+◌, ◌<◌, ◌≤◌, ℤ, get_or, drop, add-one, Bool, true, false, List, [], ◌∷◌, ◌++◌, length, map, sym, subst, ◌∙◌, ap, arith, append_assoc, append-nil}
 use Rattle.std.specs.Prelude.{◌==◌, ◌&&◌, not}
+use Rattle.yaml_parse_model.specs.declared.yaml_node_pair_t.{yaml_node_pair_t}
 use Rattle.yaml_emit_graph.specs.Graph.{number_at}
-use Rattle.yaml_round_documents.specs.Ranks.{all_ranked}
+use Rattle.yaml_round_documents.specs.Ranks.{all_ranked, number_from, number_with, with_held}
+use Rattle.yaml_round_documents.specs.Telling.{pair_keys}
+use Rattle.yaml_round_documents.proofs.Meeting.{key_here, keys_all}
 use Rattle.yaml_round_documents.proofs.Ranking.{is_positive}
 
 put_one : (f : ℤ → ℕ) (id : ℤ) (now : List ℕ) (rest : List ℤ)
@@ -10,17 +13,21 @@ put_one : (f : ℤ → ℕ) (id : ℤ) (now : List ℕ) (rest : List ℤ)
 put_one f id now rest = sym (append_assoc now (f id ∷ []) (map f rest))
 
 -- one more is put
-pub put_next : (f : ℤ → ℕ) (all now next : List ℕ) (held rest : List ℤ) (r : ℕ) (id : ℤ)
-    → all ≡ now ++ map f held → held ≡ id ∷ rest → next ≡ now ++ r ∷ [] → r ≡ f id
-    → all ≡ next ++ map f rest
-put_next f all now next held rest r id h e n is =
-    h ∙ ap (λ z. now ++ map f z) e ∙ put_one f id now rest
-    ∙ ap (λ z. (now ++ z ∷ []) ++ map f rest) (sym is) ∙ ap (λ z. z ++ map f rest) (sym n)
+pub put_next : (f : ℤ → ℕ) (all : List ℕ) (n m k : ℕ) (now next : List ℕ) (held rest : List ℤ)
+    (r : ℕ) (id : ℤ) → all ≡ with_held (n ∷ k ∷ now) (map f held) → held ≡ id ∷ rest
+    → m ≡ number_with n r → next ≡ now ++ r ∷ [] → r ≡ f id
+    → all ≡ with_held (m ∷ k ∷ next) (map f rest)
+put_next f all n m k now next held rest r id h e t p is =
+    let a : number_with n (f id) ≡ m = ap (number_with n) (sym is) ∙ sym t in
+    let b : now ++ (f id ∷ map f rest) ≡ next ++ map f rest = put_one f id now rest
+    ∙ ap (λ z. (now ++ z ∷ []) ++ map f rest) (sym is) ∙ ap (λ z. z ++ map f rest) (sym p) in
+    h ∙ ap (λ z. with_held (n ∷ k ∷ now) (map f z)) e ∙ (λ i. number_from (a i) (map f rest) ∷ k ∷ b i)
 
 -- none is left
-pub put_done : (f : ℤ → ℕ) (all now : List ℕ) (held : List ℤ) → all ≡ now ++ map f held → held ≡ []
-    → now ≡ all
-put_done f all now held h e = sym (h ∙ ap (λ z. now ++ map f z) e ∙ append-nil now)
+pub put_done : (f : ℤ → ℕ) (all : List ℕ) (n k : ℕ) (now : List ℕ) (held : List ℤ)
+    → all ≡ with_held (n ∷ k ∷ now) (map f held) → held ≡ [] → n ∷ k ∷ now ≡ all
+put_done f all n k now held h e =
+    sym (h ∙ ap (λ z. with_held (n ∷ k ∷ now) (map f z)) e ∙ ap (λ z. n ∷ k ∷ z) (append-nil now))
 
 pub less_left : (held rest : List ℤ) (id : ℤ) → held ≡ id ∷ rest → length rest < length held
 less_left held rest id e = let n = ap length e in omega arith
@@ -45,30 +52,20 @@ ranked_all t all held h e = sym (h ∙ ap (all_ranked t) e)
 
 -- ---- these have ranks
 
-left_here : (ids : List ℤ) (i : ℕ) (d : ℤ) → i < length ids
-    → drop i ids ≡ get_or ids i d ∷ drop (suc i) ids
-left_here [] i d w = absurd (omega arith)
-left_here (x ∷ ids) zero d w = refl
-left_here (x ∷ ids) (suc i) d w = left_here ids i d (omega arith)
+pub have_next : (t : List ℕ) (ps : List yaml_node_pair_t) (i : ℕ) (d : yaml_node_pair_t) (key : ℤ)
+    (r : ℕ) → all_ranked t (pair_keys ps) ≡ all_ranked t (pair_keys (drop i ps)) → i < length ps
+    → r ≡ number_at t key → key ≡ (get_or ps i d).key → (r ≡ 0 → ⊥)
+    → all_ranked t (pair_keys ps) ≡ all_ranked t (pair_keys (drop (i + 1) ps))
+have_next t ps i d key r h w is at some =
+    rw add-one (ranked_next t (all_ranked t (pair_keys ps)) (pair_keys (drop i ps)) (pair_keys (drop (suc i) ps)) r (get_or ps i d).key h (key_here ps i d w) (is ∙ ap (number_at t) at) some)
 
-none_here : (ids : List ℤ) (i : ℕ) → length ids ≤ i → drop i ids ≡ []
-none_here [] zero w = refl
-none_here [] (suc i) w = refl
-none_here (x ∷ ids) zero w = absurd (omega arith)
-none_here (x ∷ ids) (suc i) w = none_here ids i (omega arith)
+pub have_not : (t : List ℕ) (ps : List yaml_node_pair_t) (i : ℕ) (d : yaml_node_pair_t) (key : ℤ)
+    (r : ℕ) → all_ranked t (pair_keys ps) ≡ all_ranked t (pair_keys (drop i ps)) → i < length ps
+    → r ≡ number_at t key → key ≡ (get_or ps i d).key → r ≡ 0 → false ≡ all_ranked t (pair_keys ps)
+have_not t ps i d key r h w is at none =
+    ranked_not t (all_ranked t (pair_keys ps)) (pair_keys (drop i ps)) (pair_keys (drop (suc i) ps)) r (get_or ps i d).key h (key_here ps i d w) (is ∙ ap (number_at t) at) none
 
-pub have_next : (t : List ℕ) (ids : List ℤ) (i : ℕ) (d id : ℤ) (r : ℕ)
-    → all_ranked t ids ≡ all_ranked t (drop i ids) → i < length ids → r ≡ number_at t id
-    → id ≡ get_or ids i d → (r ≡ 0 → ⊥) → all_ranked t ids ≡ all_ranked t (drop (i + 1) ids)
-have_next t ids i d id r h w is at some =
-    rw add-one (ranked_next t (all_ranked t ids) (drop i ids) (drop (suc i) ids) r (get_or ids i d) h (left_here ids i d w) (is ∙ ap (number_at t) at) some)
-
-pub have_not : (t : List ℕ) (ids : List ℤ) (i : ℕ) (d id : ℤ) (r : ℕ)
-    → all_ranked t ids ≡ all_ranked t (drop i ids) → i < length ids → r ≡ number_at t id
-    → id ≡ get_or ids i d → r ≡ 0 → false ≡ all_ranked t ids
-have_not t ids i d id r h w is at none =
-    ranked_not t (all_ranked t ids) (drop i ids) (drop (suc i) ids) r (get_or ids i d) h (left_here ids i d w) (is ∙ ap (number_at t) at) none
-
-pub have_all : (t : List ℕ) (ids : List ℤ) (i : ℕ) → all_ranked t ids ≡ all_ranked t (drop i ids)
-    → length ids ≤ i → true ≡ all_ranked t ids
-have_all t ids i h w = ranked_all t (all_ranked t ids) (drop i ids) h (none_here ids i w)
+pub have_all : (t : List ℕ) (ps : List yaml_node_pair_t) (i : ℕ)
+    → all_ranked t (pair_keys ps) ≡ all_ranked t (pair_keys (drop i ps)) → length ps ≤ i
+    → true ≡ all_ranked t (pair_keys ps)
+have_all t ps i h w = ranked_all t (all_ranked t (pair_keys ps)) (pair_keys (drop i ps)) h (keys_all ps i w).0

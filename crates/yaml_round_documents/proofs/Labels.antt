@@ -1,7 +1,6 @@
 -- Labels: keys have one exactly where they are the same; and a node that gets a rank.
-use Rattle.std.proofs.Common.{◌≡◌, ℕ, zero, suc, ◌+◌, ◌<◌, ◌≤◌, ℤ, pos, negsuc, Bool, true, false, cond, List, [], ◌∷◌, length, map, get_or, Some, None, Ok, refl, sym, subst, ◌∙◌, ap, inl, inr, arith}
-use Rattle.std.specs.Prelude.{OnOk, Result, Err, ◌==◌, ◌||◌, ◌⊎◌, set, replicate}
-use Rattle.std.specs.declared.alloc.AllocError.{AllocError}
+use Rattle.std.proofs.Common.{◌≡◌, ℕ, zero, suc, ◌+◌, ◌<◌, ◌≤◌, ℤ, pos, negsuc, Bool, true, false, true≢false, cond, List, [], ◌∷◌, length, get_or, Some, None, Ok, refl, sym, subst, ◌∙◌, ap, inl, inr, arith}
+use Rattle.std.specs.Prelude.{◌==◌, ◌||◌, ◌⊎◌, set, replicate}
 use Rattle.std.specs.Ordering.{eq_by_cmp, is_eq, nat_cmp}
 use Rattle.std.specs.declared.cmp.Ordering.{Ordering}
 use Rattle.std.specs.declared.cmp.Ordering.TheVariants.{Less, Equal, Greater}
@@ -19,7 +18,7 @@ use Rattle.yaml_emit_graph.specs.Numbers.{counted}
 use Rattle.yaml_round_documents.specs.Same.{Agree, AreSame}
 use Rattle.yaml_round_documents.specs.Shapes.{Shapes}
 use Rattle.yaml_round_documents.specs.declared.ranks.Ranks.{Ranks}
-use Rattle.yaml_round_documents.specs.Ranks.{all_ranked, shape_of, holds_ranked, AreBothRanked, AreDone, AreRanks, IsRanking, KeepShapes, IsJudged, AreJudgedFrom, Ranked, Tells, TellBoth, IsWithin, natural, label_of}
+use Rattle.yaml_round_documents.specs.Ranks.{all_ranked, shape_of, holds_ranked, AreBothRanked, AreDone, AreRanks, IsRanking, KeepShapes, IsJudged, AreJudgedFrom, Ranked, Tells, TellBoth, IfJudged, natural, label_of}
 use Rattle.yaml_round_documents.proofs.Ranking.{Gets, agree, in_ranked, one_rank, ranks_more, same_rank}
 
 -- ---- labels
@@ -310,21 +309,6 @@ all_judged nodes table h (pos (suc k)) v = h k (omega arith) (omega arith)
 all_judged nodes table h (pos zero) v = absurd v
 all_judged nodes table h (negsuc k) v = absurd v
 
-pub done_ranked : (ids : List ℤ) (nodes : List Node) (t u : List ℕ) (b : Bool)
-    → b ≡ all_ranked t ids → t ≡ u → b ≡ true → AreDone ids nodes u
-done_ranked ids nodes t u b e same is = inl (ap (λ z. all_ranked z ids) (sym same) ∙ sym e ∙ is)
-
-pub done_judged : (ids : List ℤ) (nodes : List Node) (t : List ℕ) (A C : Type 0)
-    (r : Result (Unit {0}) AllocError) → OnOk r (A × AreJudgedFrom 0 nodes t × C)
-    → OnOk r (AreDone ids nodes t)
-done_judged ids nodes t A C (Ok x) h = inr h.1
-done_judged ids nodes t A C (Err e) h = tt
-
-pub ranked_first : (A B C : Type 0) (r : Result (Unit {0}) AllocError) → OnOk r (A × B × C)
-    → OnOk r A
-ranked_first A B C (Ok x) h = h.0
-ranked_first A B C (Err e) h = tt
-
 pub tells : (ids : List ℤ) (nodes : List Node) (r : Ranks) → IsRanking nodes r
     → AreDone ids nodes r.table.items → Tells ids nodes r
 tells ids nodes r h done a b v w i j = (
@@ -335,19 +319,23 @@ tells ids nodes r h done a b v w i j = (
   ],
 )
 
+-- the same where these have ranks, or all were judged
+pub tells_ranked : (ids : List ℤ) (nodes : List Node) (r : Ranks) (t : List ℕ) (b : Bool)
+    → IsRanking nodes r → b ≡ all_ranked t ids → t ≡ r.table.items → b ≡ true → Tells ids nodes r
+tells_ranked ids nodes r t b h e same is =
+    tells ids nodes r h (inl (ap (λ z. all_ranked z ids) (sym same) ∙ sym e ∙ is))
+
+pub tells_all : (ids : List ℤ) (nodes : List Node) (r : Ranks) → IsRanking nodes r
+    → AreJudgedFrom 0 nodes r.table.items → Tells ids nodes r
+tells_all ids nodes r h j = tells ids nodes r h (inr j)
+
+pub not_judged : (nodes : List Node) (r : Ranks) (b : Bool) → b ≡ false → IfJudged nodes r b
+not_judged nodes r b e h = absurd (true≢false (sym h ∙ e))
+
 natural_most : (count : ℕ) (a : ℤ) → IsId count a → natural a ≤ count
 natural_most count (pos (suc k)) v = v
 natural_most count (pos zero) v = absurd v
 natural_most count (negsuc k) v = absurd v
-
-pub within : (nodes : List Node) (r : Ranks) → IsRanking nodes r → IsWithin nodes r
-within nodes r h a v =
-    let m = natural_most (length nodes) a v in
-    let s = h.sized in
-    elim (label_cases (number_at r.table.items a) r.given (natural a)) [
-      | inl x ↦ omega arith
-      | inr x ↦ let b = (h.below _ _ (h.found a x.0)).1 in omega arith
-    ]
 
 -- ---- the nodes of two documents
 

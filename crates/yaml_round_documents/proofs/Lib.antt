@@ -3,9 +3,9 @@ pub mod Distinct
 pub mod KeysHolding
 pub mod Labels
 pub mod Meeting
+pub mod Names
 pub mod Ranking
 pub mod Settling
-pub mod Told
 pub mod Alone
 pub mod Comparing
 pub mod Equality

@@ -3,6 +3,7 @@ use Rattle.std.proofs.Common.{◌≡◌, ℕ, suc, ◌≤◌, true, false, cond,
 use Rattle.std.specs.Prelude.{◌⊎◌, ◌==◌, nat_lt}
 use Rattle.std.specs.Cmp.{eq_by_cmp_equiv}
 use Rattle.std.specs.Cmp.Lexicographic.{nat_list_cmp_total}
+use Rattle.std.proofs.lemmas.Bool.{eq-eqb}
 use Rattle.std.proofs.lemmas.Bool.Decides.{nat_tests}
 use Rattle.std.proofs.lemmas.Map.Lookups.{exact_bytes}
 use Rattle.yaml_round_documents.proofs.Labels.{tied}
@@ -62,14 +63,11 @@ numbered_least before (m ∷ ls) l k (inr h) =
       | false ↦ λ e. omega arith
     ] t
 
-eq_yes : (n : ℕ) → (n == n) ≡ true
-eq_yes n = grind (arith, nat_tests)
-
 pub numbered_distinct : (before ls : List ℕ) → Distinct (numbered before ls)
 numbered_distinct before [] = tt
 numbered_distinct before (l ∷ ls) = (
   λ h. let i = numbered_least (before ++ l ∷ []) ls l (times l before) h in
-      let t : times l (before ++ l ∷ []) ≡ suc (times l before) = times_push l before l ∙ ap (λ b. cond b (suc (times l before)) (times l before)) (eq_yes l) in
+      let t : times l (before ++ l ∷ []) ≡ suc (times l before) = times_push l before l ∙ ap (λ b. cond b (suc (times l before)) (times l before)) (eq-eqb l l refl) in
       absurd (omega arith),
   numbered_distinct (before ++ l ∷ []) ls,
 )

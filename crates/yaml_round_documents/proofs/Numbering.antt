@@ -1,23 +1,16 @@
 -- Labels with their numbers.
-use Rattle.std.proofs.Common.{◌≡◌, ℕ, suc, ◌+◌, ◌<◌, ◌≤◌, Bool, true, false, cond, List, [], ◌∷◌, ◌++◌, length, map, get_or, take, drop, Ok, refl, sym, ◌∙◌, ap, inl, inr, arith, append_assoc, append-nil}
+use Rattle.std.proofs.Common.{◌≡◌, ℕ, suc, ◌+◌, ◌<◌, ◌≤◌, Bool, true, false, cond, List, [], ◌∷◌, ◌++◌, length, map, get_or, take, drop, Ok, refl, sym, ◌∙◌, ap, inl, inr, append_assoc, append-nil}
 use Rattle.std.specs.Prelude.{◌==◌}
 use Rattle.std.specs.FinMap as map
 use Rattle.std.specs.FinMap.{get-empty}
 use Rattle.std.specs.Ordering.{nat_cmp}
 use Rattle.std.specs.Cmp.Lexicographic.{slice_cmp}
-use Rattle.std.proofs.lemmas.Bool.{cases_eq}
-use Rattle.std.proofs.lemmas.Bool.Decides.{nat_tests}
+use Rattle.std.proofs.lemmas.Bool.{cases_eq, eq-eqb, ne_eqb}
 use Rattle.std.proofs.lemmas.List.{map-append, take_more, drop_more, drop_all}
 use Rattle.yaml_round_documents.specs.Shapes.{Shapes}
 use Rattle.yaml_round_documents.proofs.Labels.{inserted_apart, inserted_has}
 use Rattle.yaml_round_documents.specs.declared.matching.Numbered.{Numbered}
 use Rattle.yaml_round_documents.specs.Matching.{Counts, counted, name_of, numbered, or_none, times}
-
-eq_yes : (n : ℕ) → (n == n) ≡ true
-eq_yes n = grind (arith, nat_tests)
-
-eq_no : (n m : ℕ) → (n ≡ m → ⊥) → (n == m) ≡ false
-eq_no n m h = grind (arith, nat_tests)
 
 -- one more comes last
 pub times_push : (l : ℕ) (xs : List ℕ) (x : ℕ)
@@ -43,23 +36,23 @@ pub record NumberedTo (labels : List ℕ) (at : ℕ) (names : List Numbered) (co
 none_numbered : (labels : List ℕ) → NumberedTo labels 0 [] map.empty
 none_numbered labels = record {
   told = refl;
-  count = λ l. ap or_none (get-empty (slice_cmp nat_cmp) (l ∷ []));
+  count = λ l. ap or_none (get-empty (slice_cmp nat_cmp) (l ∷ 0 ∷ []));
 }
 
-one_apart : (l x : ℕ) → (l ≡ x → ⊥) → (l ∷ [] ≡ x ∷ []) → ⊥
+one_apart : (l x : ℕ) → (l ≡ x → ⊥) → (l ∷ 0 ∷ [] ≡ x ∷ 0 ∷ []) → ⊥
 one_apart l x ne e = ne (cc)
 
 counted_more : (counts : Shapes) (xs : List ℕ) (x n l : ℕ)
     → ((m : ℕ) → counted counts m ≡ times m xs) → n ≡ counted counts x
-    → counted (map.insert counts (x ∷ []) (suc n)) l ≡ times l (xs ++ x ∷ [])
+    → counted (map.insert counts (x ∷ 0 ∷ []) (suc n)) l ≡ times l (xs ++ x ∷ [])
 counted_more counts xs x n l h is =
     elim (cases_eq l x) [
-      | inl e ↦ let new = map.insert counts (x ∷ []) (suc n) in
-          ap (λ z. counted new z) e ∙ ap or_none (inserted_has counts (x ∷ []) (suc n))
-          ∙ ap suc (is ∙ h x) ∙ sym (times_push x xs x ∙ ap (λ b. cond b (suc (times x xs)) (times x xs)) (eq_yes x))
+      | inl e ↦ let new = map.insert counts (x ∷ 0 ∷ []) (suc n) in
+          ap (λ z. counted new z) e ∙ ap or_none (inserted_has counts (x ∷ 0 ∷ []) (suc n))
+          ∙ ap suc (is ∙ h x) ∙ sym (times_push x xs x ∙ ap (λ b. cond b (suc (times x xs)) (times x xs)) (eq-eqb x x refl))
           ∙ ap (λ z. times z (xs ++ x ∷ [])) (sym e)
-      | inr ne ↦ ap or_none (inserted_apart counts (x ∷ []) (l ∷ []) (suc n) (one_apart l x ne)) ∙ h l
-          ∙ sym (times_push l xs x ∙ ap (λ b. cond b (suc (times l xs)) (times l xs)) (eq_no l x ne))
+      | inr ne ↦ ap or_none (inserted_apart counts (x ∷ 0 ∷ []) (l ∷ 0 ∷ []) (suc n) (one_apart l x ne)) ∙ h l
+          ∙ sym (times_push l xs x ∙ ap (λ b. cond b (suc (times l xs)) (times l xs)) (ne_eqb l x ne))
     ]
 
 numbered_next : (labels : List ℕ) (at : ℕ) (names : List Numbered) (counts new : Shapes) (n : ℕ)
@@ -88,6 +81,11 @@ pub all_numbered : (labels : List ℕ) (at : ℕ) (names : List Numbered) (count
     → map name_of names ≡ numbered [] labels
 all_numbered labels at names counts h w =
     sym (append-nil (map name_of names)) ∙ ap (λ z. map name_of names ++ numbered (take at labels) z) (sym (drop_all at labels w)) ∙ h.told
+
+-- as many as there are labels
+pub numbered_many : (before labels : List ℕ) → length (numbered before labels) ≡ length labels
+numbered_many before [] = refl
+numbered_many before (l ∷ labels) = ap suc (numbered_many (before ++ l ∷ []) labels)
 
 -- the same, by equations
 pub numbered_start : (labels : List ℕ) (names : List Numbered) (counts : Shapes) → names ≡ []

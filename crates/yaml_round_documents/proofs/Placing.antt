@@ -12,7 +12,7 @@ use Rattle.yaml_round_documents.specs.declared.matching.Numbered.{Numbered}
 use Rattle.yaml_round_documents.specs.Matching.{ArePlaces, is_equal, matched, name_of, numbered, place_from, places_in, put_first}
 
 -- the first, or else the other
-abbrev or_else : Option ℕ → Option ℕ → Option ℕ
+abbrev pub or_else : {A : Type 0} → Option A → Option A → Option A
 or_else None o = o
 or_else (Some n) o = Some n
 
@@ -42,7 +42,7 @@ pub none_placed : (names : List Numbered) (places : Shapes) → places ≡ map.e
 none_placed names places e = record { has = λ q. ap (λ m. map.get m q) e ∙ get-empty (slice_cmp nat_cmp) q }
 
 -- a place is put where there is none
-put_is : (places : Shapes) (x q : List ℕ) (at : ℕ)
+pub put_is : (places : Shapes) (x q : List ℕ) (at : ℕ)
     → map.get (put_first (map.get places x) places x at) q
     ≡ or_else (map.get places q) (cond (is_equal q x) (Some at) None)
 put_is places x q at =

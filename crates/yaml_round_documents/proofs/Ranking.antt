@@ -1,6 +1,6 @@
 -- Ranks: nodes have one exactly where they agree with all that they hold.
-use Rattle.std.proofs.Common.{◌≡◌, ℕ, zero, suc, ◌+◌, ◌<◌, ◌≤◌, ℤ, pos, negsuc, true, List, [], ◌∷◌, ◌++◌, length, map, get_or, Some, refl, sym, subst, ◌∙◌, ap, inl, inr, arith}
-use Rattle.std.specs.Prelude.{◌%◌, ◌==◌, ◌&&◌, ◌⊎◌, not, set}
+use Rattle.std.proofs.Common.{◌≡◌, ℕ, zero, suc, ◌<◌, ◌≤◌, ℤ, pos, negsuc, true, List, [], ◌∷◌, ◌++◌, length, map, get_or, Some, refl, sym, subst, ◌∙◌, ap, inl, inr, arith}
+use Rattle.std.specs.Prelude.{◌==◌, ◌&&◌, ◌⊎◌, not, set}
 use Rattle.std.proofs.lemmas.Bool.{and_parts, cases_eq}
 use Rattle.std.proofs.lemmas.Bool.Decides.{nat_tests}
 use Rattle.std.proofs.lemmas.List.{length-append, get_or-set_same, get_or-set_other, length-set}
@@ -11,7 +11,7 @@ use Rattle.yaml_parse_model.specs.Documents.{IsId}
 use Rattle.yaml_emit_graph.specs.Graph.{child_ids, body_of_id, tag_of_id, number_at}
 use Rattle.yaml_round_documents.specs.Same.{text_of, LookAlike, OneByOne, AgreeWithin}
 use Rattle.yaml_round_documents.specs.Shapes.{Shapes}
-use Rattle.yaml_round_documents.specs.Ranks.{IsIn, kind_of, look, number_from, shape_of, all_ranked, holds_ranked, AreRanks, IsJudged}
+use Rattle.yaml_round_documents.specs.Ranks.{IsIn, kind_of, look, number_from, shape_of, with_held, all_ranked, holds_ranked, AreRanks, IsJudged}
 
 -- ---- shapes
 
@@ -48,7 +48,8 @@ record Parts (f g : ℤ → ℕ) (b c : NodeBody) (t u : List ℕ) : Type 0 wher
   held : map f (child_ids b) ≡ map g (child_ids c)
 
 parts : (f g : ℤ → ℕ) (b c : NodeBody) (t u : List ℕ)
-    → look b t ++ map f (child_ids b) ≡ look c u ++ map g (child_ids c) → Parts f g b c t u
+    → with_held (look b t) (map f (child_ids b)) ≡ with_held (look c u) (map g (child_ids c))
+    → Parts f g b c t u
 parts f g b c t u e =
     let k : kind_of b ≡ kind_of c = cc in
     let n : length (text_of b) ≡ length (text_of c) = cc in
@@ -72,7 +73,7 @@ same_shape : (ranks more : List ℕ) (nodes others : List Node) (a b : ℤ)
     → shape_of ranks nodes a ≡ shape_of more others b
 same_shape ranks more nodes others a b h e =
     let k : kind_of (body_of_id nodes a) ≡ kind_of (body_of_id others b) = kind_from_type _ _ h.kind in
-    λ i. number_from 0 (h.text i) % 0x100000000 ∷ k i ∷ length (h.text i) ∷ length (h.tag i) ∷ (h.text i ++ h.tag i ++ e i)
+    λ i. number_from (number_from 0 (h.text i)) (e i) ∷ k i ∷ length (h.text i) ∷ length (h.tag i) ∷ (h.text i ++ h.tag i ++ e i)
 
 -- ---- lists of numbers
 
@@ -253,7 +254,7 @@ ranked_by t u (j ∷ js) e =
 shape_by : (t u : List ℕ) (nodes : List Node) (a : ℤ)
     → map (number_at t) (child_ids (body_of_id nodes a)) ≡ map (number_at u) (child_ids (body_of_id nodes a))
     → shape_of t nodes a ≡ shape_of u nodes a
-shape_by t u nodes a e = ap (λ z. look (body_of_id nodes a) (tag_of_id nodes a) ++ z) e
+shape_by t u nodes a e = ap (with_held (look (body_of_id nodes a) (tag_of_id nodes a))) e
 
 one_by_one : (P Q : ℤ → ℤ → Type 0) → ((a b : ℤ) → P a b → Q a b) → (xs bs : List ℤ)
     → OneByOne P xs bs → OneByOne Q xs bs

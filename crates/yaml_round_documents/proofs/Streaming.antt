@@ -14,6 +14,7 @@ use Rattle.yaml_round_documents.specs.declared.walk.yaml_node_match_t.{yaml_node
 use Rattle.yaml_round_documents.specs.Differences.{AreDifferences}
 use Rattle.yaml_round_documents.specs.Equal.{AreEqual}
 use Rattle.yaml_round_documents.specs.Streams.{AreEqualStreams, AreStreamDifferences, TellsDocument, TellsTo, alone, in_document, told_alone_from}
+use Rattle.yaml_round_documents.proofs.Distinct.{no_front}
 
 -- ---- the differences of a document
 
@@ -135,10 +136,6 @@ stream_told ds es k start now mid new h p s (inr w) m n =
     (subst (AreStreamDifferences 0 ds es all.0) (sym is) all.4)
 
 -- ---- the list is empty exactly where they are equal
-
-no_front : {A : Type 0} (xs ys : List A) → xs ++ ys ≡ [] → (xs ≡ []) × (ys ≡ [])
-no_front [] ys e = (refl, e)
-no_front (x ∷ xs) ys e = absurd (cc)
 
 none_mapped : (k : ℕ) (ds : List yaml_node_difference_t) → map (in_document k) ds ≡ [] → ds ≡ []
 none_mapped k [] e = refl

@@ -1,5 +1,5 @@
 -- Keys whose texts differ are never reported.
-use Rattle.std.proofs.Common.{◌≡◌, ℕ, zero, suc, ◌+◌, ◌<◌, ◌≤◌, ℤ, pos, Bool, true, false, true≢false, List, [], ◌∷◌, ◌++◌, length, map, get_or, take, drop, None, Ok, refl, sym, subst, ◌∙◌, ap, inl, inr, arith, add-one}
+use Rattle.std.proofs.Common.{◌≡◌, ℕ, zero, suc, ◌+◌, ◌<◌, ◌≤◌, ℤ, Bool, true, false, true≢false, List, [], ◌∷◌, ◌++◌, length, map, get_or, take, drop, None, Ok, refl, sym, subst, ◌∙◌, ap, inl, inr, arith, add-one}
 use Rattle.std.specs.List.{IsDistinct}
 use Rattle.std.specs.List.Sorted.{IsPermutation, IsStrictlyIncreasing}
 use Rattle.std.specs.Ordering.{eq_by_cmp, nat_cmp}
@@ -11,12 +11,11 @@ use Rattle.std.proofs.lemmas.List.Sorted.{IsPermutation-sym}
 use Rattle.std.proofs.lemmas.Map.Keys.{IsDistinct-head, IsDistinct-tail, IsDistinct-from_sorted, IsDistinct-IsPermutation, sorted_from_strictly_increasing}
 use Rattle.yaml_parse_model.specs.declared.yaml_node_pair_t.{yaml_node_pair_t}
 use Rattle.yaml_parse_model.specs.Nodes.{Node}
-use Rattle.yaml_emit_graph.specs.Graph.{body_of_id}
 use Rattle.yaml_round_documents.specs.Same.{AgreeWithin, AreSame}
 use Rattle.yaml_round_documents.specs.Texts.{IfApart, NoneIsTold, key_number, key_text}
 use Rattle.yaml_round_documents.specs.Ranks.{number_from, number_with}
-use Rattle.yaml_round_documents.specs.Telling.{AreSameKeys, AreToldBehind, AreToldIn, IsFirstSame, keys_of, pair_keys}
-use Rattle.yaml_round_documents.proofs.Meeting.{keys_taken, keys_all, node_here, none_from}
+use Rattle.yaml_round_documents.specs.Telling.{AreToldBehind, IsFirstSame, pair_keys}
+use Rattle.yaml_round_documents.proofs.Meeting.{keys_taken, keys_all}
 
 -- keys that are the same have one text
 agree_text : (nodes : List Node) (n : ℕ) (a b : ℤ) → AgreeWithin n nodes nodes a b
@@ -141,26 +140,3 @@ pub apart_answer : (nodes : List Node) (keys : List ℤ) (room sorted slice : Li
     → (b ≡ true → IsStrictlyIncreasing slice) → IfApart (NoneIsTold nodes keys) (Ok b)
 apart_answer nodes keys room sorted slice true e p s r = none_same nodes keys room sorted e p (subst IsStrictlyIncreasing s (r refl))
 apart_answer nodes keys room sorted slice false e p s r = tt
-
--- ---- node by node
-
--- none of the first keys was reported
-pub record NoneSoFar (nodes : List Node) (i : ℕ) : Type 0 where
-  pub left : AreToldIn nodes (drop i nodes) [] → AreSameKeys nodes []
-
-pub none_told : (nodes : List Node) → NoneSoFar nodes 0
-none_told nodes = record { left = λ h. h }
-
-none_suc : (nodes : List Node) (i : ℕ) → NoneSoFar nodes i → i < length nodes
-    → NoneIsTold nodes (keys_of (body_of_id nodes (pos (suc i)))) → NoneSoFar nodes (suc i)
-none_suc nodes i h w t =
-    let n = node_here nodes i w in
-    record { left = λ k. h.left (subst (λ z. AreToldIn nodes z []) (sym n.1.0) ([], [], refl, subst (λ b. NoneIsTold nodes (keys_of b)) n.1.1 t, k)) }
-
-pub none_next : (nodes : List Node) (i : ℕ) → NoneSoFar nodes i → i < length nodes
-    → NoneIsTold nodes (keys_of (body_of_id nodes (pos (suc i)))) → NoneSoFar nodes (i + 1)
-none_next nodes i h w t = rw add-one (none_suc nodes i h w t)
-
-pub all_apart : (nodes : List Node) (n : ℕ) → NoneSoFar nodes n → length nodes ≤ n
-    → AreSameKeys nodes []
-all_apart nodes n h w = h.left (subst (λ z. AreToldIn nodes z []) (sym (none_from nodes n w)) refl)

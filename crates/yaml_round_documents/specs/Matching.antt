@@ -57,11 +57,11 @@ or_none (Some n) = n
 
 -- how often a label was counted
 abbrev pub counted : Shapes → ℕ → ℕ
-counted counts l = or_none (map.get counts (l ∷ []))
+counted counts l = or_none (map.get counts (l ∷ 0 ∷ []))
 
 -- it is counted once more
 abbrev pub Counts : Shapes → ℕ → Result ℕ AllocError → Shapes → Type 0
-Counts old l (Ok n) new = (n ≡ counted old l) × (new ≡ map.insert old (l ∷ []) (suc n))
+Counts old l (Ok n) new = (n ≡ counted old l) × (new ≡ map.insert old (l ∷ 0 ∷ []) (suc n))
 Counts old l (Err e) new = Unit {0}
 
 -- a place is put where there is none

@@ -31,13 +31,18 @@ number_from n (b ∷ bs) = number_from (number_with n b) bs
 -- What a node looks like except for what it holds: a number of its text, its kind, how long its
 -- text and its tag are, and these.
 abbrev pub look : NodeBody → List ℕ → List ℕ
-look b tag = number_from 0 (text_of b) % 0x100000000 ∷ kind_of b ∷ length (text_of b) ∷ length tag
+look b tag = number_from 0 (text_of b) ∷ kind_of b ∷ length (text_of b) ∷ length tag
     ∷ (text_of b ++ tag)
+
+-- that with ranks after it, by which the number goes on
+abbrev pub with_held : List ℕ → List ℕ → List ℕ
+with_held [] ranks = ranks
+with_held (n ∷ ns) ranks = number_from n ranks ∷ (ns ++ ranks)
 
 -- what it looks like where those that it holds have these ranks
 abbrev pub shape_of : List ℕ → List Node → ℤ → List ℕ
-shape_of ranks nodes id = look (body_of_id nodes id) (tag_of_id nodes id)
-    ++ map (number_at ranks) (child_ids (body_of_id nodes id))
+shape_of ranks nodes id = with_held (look (body_of_id nodes id) (tag_of_id nodes id))
+    (map (number_at ranks) (child_ids (body_of_id nodes id)))
 
 -- all these have ranks; 0 means none
 abbrev pub all_ranked : List ℕ → List ℤ → Bool
@@ -86,6 +91,10 @@ abbrev pub AreJudgedFrom : ℕ → List Node → List ℕ → Type 0
 AreJudgedFrom from nodes table = (k : ℕ) → from ≤ k → k < length nodes
     → IsJudged nodes table (pos (suc k))
 
+-- where that is said, all nodes were judged
+abbrev pub IfJudged : List Node → Ranks → Bool → Type 0
+IfJudged nodes r judged = judged ≡ true → AreJudgedFrom 0 nodes r.table.items
+
 -- more nodes have ranks; or none got one, and that holds
 abbrev pub Ranked : (List ℕ → Type 0) → List Node → Ranks → Result Bool AllocError → Ranks → Type 0
 Ranked P nodes old (Ok true) new = IsRanking nodes new
@@ -126,11 +135,6 @@ abbrev pub Tells : List ℤ → List Node → Ranks → Type 0
 Tells ids nodes r = (a b : ℤ) → IsId (length nodes) a → IsId (length nodes) b → IsIn a ids
     → IsIn b ids
     → (label_of r.table.items r.given a ≡ label_of r.table.items r.given b) ↔ AreSame nodes a b
-
--- they lie below a bound
-abbrev pub IsWithin : List Node → Ranks → Type 0
-IsWithin nodes r = (a : ℤ) → IsId (length nodes) a
-    → label_of r.table.items r.given a < suc (r.given + length r.table.items)
 
 -- ---- the nodes of two documents, by ranks of shapes that they share
 

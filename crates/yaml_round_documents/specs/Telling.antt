@@ -1,5 +1,7 @@
 -- Which keys of a document's mappings are repeated.
-use Rattle.std.specs.Prelude.{◌≡◌, ◌⊎◌, ◌<◌, ◌≤◌, ℕ, suc, ◌==◌, ℤ, pos, Bool, true, false, if◌then◌else◌, List, [], ◌∷◌, ◌++◌, length, get_or, set, All, AllPairs, Option, Some, None, codes, nat_eq}
+use Rattle.std.specs.Prelude.{◌≡◌, ◌⊎◌, ℕ, ◌==◌, ℤ, pos, Bool, true, false, if◌then◌else◌, List, [], ◌∷◌, ◌++◌, All, AllPairs, Option, Some, None, Result, Ok, Err, option_map, codes, nat_eq}
+use Rattle.std.specs.FinMap as map
+use Rattle.std.specs.declared.alloc.AllocError.{AllocError}
 use Rattle.std.specs.Cmp.Lexicographic.{pointwise}
 use Rattle.yaml_parse_model.specs.declared.yaml_mark_t.{yaml_mark_t}
 use Rattle.yaml_parse_model.specs.scan_types.Tokens.{zero_mark}
@@ -7,13 +9,15 @@ use Rattle.yaml_parse_model.specs.declared.yaml_node_pair_t.{yaml_node_pair_t}
 use Rattle.yaml_parse_model.specs.declared.yaml_scalar_style_t.TheVariants.{YAML_PLAIN_SCALAR_STYLE}
 use Rattle.yaml_parse_model.specs.Nodes.{Node, NodeBody}
 use Rattle.yaml_parse_model.specs.Nodes as node
-use Rattle.yaml_parse_model.specs.Documents.{IsId, AreIds, node_at}
+use Rattle.yaml_parse_model.specs.Documents.{node_at}
 use Rattle.yaml_emit_graph.specs.Graph.{body_of_id}
 use Rattle.yaml_round_documents.specs.Same.{AreSame}
-use Rattle.yaml_round_documents.specs.Ranks.{label_of}
+use Rattle.yaml_round_documents.specs.Shapes.{Shapes}
+use Rattle.yaml_round_documents.specs.Matching.{put_first}
+use Rattle.yaml_round_documents.specs.Ranks.{IfJudged, IsRanking, label_of, natural}
 use Rattle.yaml_round_documents.specs.declared.ranks.Ranks.{Ranks}
 use Rattle.yaml_round_documents.specs.declared.repeated.yaml_same_key_t.{yaml_same_key_t}
-use Rattle.yaml_round_documents.specs.declared.repeated.Slot.{Slot}
+use Rattle.yaml_round_documents.specs.declared.repeated.Teller.{Teller}
 
 -- the keys of a mapping, in order
 abbrev pub pair_keys : List yaml_node_pair_t → List ℤ
@@ -25,11 +29,6 @@ keys_of node.no = []
 keys_of (node.scalar value style) = []
 keys_of (node.sequence items style) = []
 keys_of (node.mapping pairs style) = pair_keys pairs
-
--- those of all mappings
-abbrev pub all_keys : List Node → List ℤ
-all_keys [] = []
-all_keys (n ∷ ns) = keys_of n.body ++ all_keys ns
 
 -- a plain `<<`, which may come again
 abbrev pub is_plain_merge : NodeBody → Bool
@@ -115,68 +114,44 @@ told_behind label nodes before (key ∷ keys) = told_of nodes key
     (first_with label (label key) before)
     ++ told_behind label nodes (before ++ key ∷ []) keys
 
--- mapping by mapping
-abbrev pub told_in : (ℤ → ℕ) → List Node → List Node → List yaml_same_key_t
-told_in label nodes [] = []
-told_in label nodes (n ∷ ns) = told_behind label nodes [] (keys_of n.body) ++ told_in label nodes ns
-
 -- ---- the keys that were met, by their labels
 
 -- the label by ranks
 abbrev pub label_by : Ranks → ℤ → ℕ
 label_by r id = label_of r.table.items r.given id
 
--- the key that was first met in that mapping, if it is that one
-abbrev pub met_in : ℕ → Slot → Option ℤ
-met_in mapping s = if s.mapping == mapping then Some s.key else None
+-- a label as a name
+abbrev pub label_name : ℕ → List ℕ
+label_name l = l ∷ 0 ∷ []
 
-abbrev pub met_with : List Slot → ℕ → ℕ → Option ℤ
-met_with slots mapping l = met_in mapping (get_or slots l (record { mapping = 0; key = pos 0 }))
+-- the key that was first met with a label
+abbrev pub met_with : Shapes → ℕ → Option ℤ
+met_with met l = option_map pos (map.get met (label_name l))
 
--- a first key stays
-abbrev pub met_by : Option ℤ → List Slot → ℕ → Slot → List Slot
-met_by None slots l s = set slots l s
-met_by (Some key) slots l s = slots
+-- it is met where there was none
+abbrev pub met_by : Shapes → ℕ → ℤ → Shapes
+met_by met l key = put_first (map.get met (label_name l)) met (label_name l) (natural key)
 
--- nothing was met in mappings from that one on
-abbrev pub IsFresh : List Slot → ℕ → Type 0
-IsFresh slots mapping = (l m : ℕ) → mapping ≤ m → l < length slots → met_with slots m l ≡ None
-
--- what was met in that mapping are these keys, for each label the first
-pub record HasMet (label : ℤ → ℕ) (slots : List Slot) (mapping : ℕ) (before : List ℤ) : Type 0
-  where
-    pub first : (l : ℕ) → l < length slots → met_with slots mapping l ≡ first_with label l before
-    pub fresh : IsFresh slots (suc mapping)
-
--- there is a slot for each label
-abbrev pub HasRoom : List Node → Ranks → List Slot → Type 0
-HasRoom nodes r slots = (a : ℤ) → IsId (length nodes) a → label_by r a < length slots
+-- what was met are these keys, for each label the first
+abbrev pub HasMet : (ℤ → ℕ) → Shapes → List ℤ → Type 0
+HasMet label met before = (l : ℕ) → met_with met l ≡ first_with label l before
 
 -- a key was met: the first with its label is there
-abbrev pub Meets : List Slot → ℕ → ℕ → ℤ → Option ℤ → List Slot → Type 0
-Meets old mapping l key found new = (found ≡ met_with old mapping l)
-    × (new ≡ met_by found old l (record { mapping = mapping; key = key }))
+abbrev pub Meets : Shapes → ℕ → ℤ → Result (Option ℤ) AllocError → Shapes → Type 0
+Meets old l key (Ok found) new = (found ≡ met_with old l) × (new ≡ met_by old l key)
+Meets old l key (Err e) new = Unit {0}
 
 -- a key was met, and reported where it is the same as an earlier one
-pub record TellsKey (nodes : List Node) (mapping l : ℕ) (key : ℤ) (old new : List Slot)
+pub record TellsKey (nodes : List Node) (l : ℕ) (key : ℤ) (old new : Shapes)
     (before after : List yaml_same_key_t) : Type 0 where
-  pub told : after ≡ before ++ told_of nodes key (met_with old mapping l)
-  pub met : new ≡ met_by (met_with old mapping l) old l (record { mapping = mapping; key = key })
+  pub told : after ≡ before ++ told_of nodes key (met_with old l)
+  pub met : new ≡ met_by old l key
 
--- a mapping's keys were met, and the repeated ones reported
-pub record TellsKeys (nodes : List Node) (label : ℤ → ℕ) (mapping : ℕ) (keys : List ℤ)
-    (old new : List Slot) (before after : List yaml_same_key_t) : Type 0 where
-  pub told : after ≡ before ++ told_behind label nodes [] keys
-  pub fresh : IsFresh new (suc mapping)
-  pub sized : length new ≡ length old
-  pub ids : AreIds (length nodes) keys
+-- the repeated ones of a mapping's keys are reported
+abbrev pub TellsKeys : List Node → List ℤ → List yaml_same_key_t → List yaml_same_key_t → Type 0
+TellsKeys nodes keys old new = (told : List yaml_same_key_t) × (new ≡ old ++ told)
+    × AreToldBehind nodes [] keys told
 
--- the keys of these nodes name nodes
-abbrev pub AreKeyIds : ℕ → List Node → Type 0
-AreKeyIds count nodes = All (λ (n : Node). AreIds count (keys_of n.body)) nodes
-
--- the keys of all mappings were met, and the repeated ones reported
-pub record TellsNodes (nodes : List Node) (label : ℤ → ℕ) (before after : List yaml_same_key_t) :
-    Type 0 where
-  pub told : after ≡ before ++ told_in label nodes nodes
-  pub ids : AreKeyIds (length nodes) nodes
+-- nodes that were judged have a rank, unless they hold a node that has none
+abbrev pub IsTeller : List Node → Teller → Type 0
+IsTeller nodes t = IsRanking nodes t.ranks × IfJudged nodes t.ranks t.judged

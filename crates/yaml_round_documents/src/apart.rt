@@ -1,17 +1,14 @@
-//! Whether the keys of each mapping differ by numbers of their texts, as they mostly do: then no
-//! key is reported.
+//! Whether the keys of a mapping differ by numbers of their texts, as they mostly do: then none is
+//! reported.
 
-ghost use Rattle.std.specs.Prelude.{◌≡◌, ◌<◌, ◌≤◌, [], map, pos, suc, true, OnOk, length};
+ghost use Rattle.std.specs.Prelude.{◌≡◌, map, true, OnOk};
 ghost use Rattle.std.specs.List.Sorted.{IsStrictlyIncreasing};
-ghost use Rattle.yaml_emit_graph.specs.Graph.{body_of_id};
 ghost use Rattle.yaml_round_documents.specs.Texts.{IfApart, NoneIsTold, key_number};
-ghost use Rattle.yaml_round_documents.specs.Telling.{AreSameKeys, keys_of, pair_keys};
+ghost use Rattle.yaml_round_documents.specs.Telling.{pair_keys};
 
-use crate::shape::{id_of, number_of, scalar_text};
-use std::alloc::{AllocError, Global};
-use yaml_parse_model::{
-    yaml_document_get_node, yaml_document_t, yaml_node_body_t, yaml_node_pair_t,
-};
+use crate::shape::{number_of, scalar_text};
+use std::alloc::AllocError;
+use yaml_parse_model::{yaml_document_get_node, yaml_document_t, yaml_node_pair_t};
 
 // The number of a key's text.
 fn key_number(document: &yaml_document_t, key: i32) -> u64
@@ -52,8 +49,8 @@ fn rises(numbers: &[u64]) -> bool
     true
 }
 
-// Whether the keys of a mapping have numbers that differ.
-fn are_apart(
+/// Whether the keys of a mapping have numbers that differ.
+pub(crate) fn are_apart(
     room: &mut Vec<u64>,
     document: &yaml_document_t,
     pairs: &[yaml_node_pair_t],
@@ -64,41 +61,4 @@ fn are_apart(
     room.sort_unstable();
     let apart = rises(room);
     Ok(apart)
-}
-
-// Whether the node at a place is no mapping, or has keys whose texts differ.
-fn is_apart(
-    room: &mut Vec<u64>,
-    document: &yaml_document_t,
-    place: usize,
-) -> Result<bool, AllocError>
-    requires { place < 2147483647 }
-    ensures { IfApart (NoneIsTold document.now.nodes
-        (keys_of (body_of_id document.now.nodes (pos (suc place))))) result }
-{
-    match yaml_document_get_node(document, id_of(place)) {
-        None => Ok(true),
-        Some(node) => match &node.body {
-            yaml_node_body_t::No => Ok(true),
-            yaml_node_body_t::Scalar { .. } => Ok(true),
-            yaml_node_body_t::Sequence { .. } => Ok(true),
-            yaml_node_body_t::Mapping { pairs, .. } => are_apart(room, document, pairs),
-        },
-    }
-}
-
-/// Whether in each mapping the numbers of the keys' texts differ.
-#[tactic(auto, using(crate::proofs::Texts::none_told, crate::proofs::Texts::all_apart))]
-pub(crate) fn all_apart(alloc: Global, document: &yaml_document_t) -> Result<bool, AllocError>
-    requires { length document.now.nodes ≤ 2147483647 }
-    ensures { IfApart (AreSameKeys document.now.nodes []) result }
-{
-    let mut room = Vec::new(alloc);
-    for place in 0..document.node_count() {
-        match is_apart(&mut room, document, place) {
-            Ok(true) => {}
-            other => return other,
-        }
-    }
-    Ok(true)
 }

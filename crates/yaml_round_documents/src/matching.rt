@@ -2,10 +2,11 @@
 
 ghost use Rattle.std.specs.Prelude.{◌≡◌, [], map, IfOk, OnOk};
 ghost use Rattle.std.specs.FinMap as finite;
+ghost use Rattle.yaml_round_documents.specs.Shapes.{list_of};
 ghost use Rattle.yaml_round_documents.specs.Matching.{ArePlaces, Counts, in_order, matched, name_of, numbered, order_after, places_in, put_first};
 
 use crate::shape::narrowed;
-use crate::shapes::ShapeTable;
+use crate::shapes::{Name, ShapeTable};
 use std::alloc::{AllocError, Global};
 
 /// A label, with how often it is before it.
@@ -15,30 +16,26 @@ pub struct Numbered {
     number: u32,
 }
 
-// A label with its number as a list.
-fn name_of(alloc: Global, name: Numbered) -> Result<Vec<u32>, AllocError>
-    ensures { IfOk result (λ n. n.items ≡ name_of name) }
+// A label with its number as a name.
+fn name_of(alloc: Global, name: Numbered) -> Name
+    ensures { list_of result ≡ name_of name }
 {
-    let mut list = Vec::new(alloc);
-    list.push(name.label)?;
-    list.push(name.number)?;
-    Ok(list)
+    (u64::from(name.label), name.number, Vec::new(alloc))
 }
 
 // How often a label was counted; it is counted once more.
 fn count(alloc: Global, counts: &mut ShapeTable, label: u32) -> Result<u32, AllocError>
     ensures { Counts counts.old label result counts.new }
 {
-    let mut list = Vec::new(alloc);
-    list.push(label)?;
-    let number = match counts.get(&list) {
+    let name = (u64::from(label), 0, Vec::new(alloc));
+    let number = match counts.get(&name) {
         None => 0,
         Some(number) => number,
     };
     if number == u32::MAX {
         return Err(AllocError);
     }
-    counts.insert(list, number + 1)?;
+    counts.insert(name, number + 1)?;
     Ok(number)
 }
 
@@ -67,10 +64,10 @@ fn put_place(
     ensures { OnOk result (places.new
         ≡ put_first (finite.get places.old (name_of name)) places.old (name_of name) at) }
 {
-    let list = name_of(alloc, name)?;
-    match places.get(&list) {
+    let name = name_of(alloc, name);
+    match places.get(&name) {
         Some(_) => Ok(()),
-        None => places.insert(list, narrowed(at)?),
+        None => places.insert(name, narrowed(at)?),
     }
 }
 
@@ -98,8 +95,7 @@ fn find_places(
 {
     let mut found = Vec::new(alloc);
     for at in 0..names.len() {
-        let list = name_of(alloc, names[at])?;
-        let place = places.get(&list);
+        let place = places.get(&name_of(alloc, names[at]));
         found.push(place)?;
     }
     Ok(found)

@@ -1,14 +1,16 @@
 //! Ranks of nodes: one for all that agree, with all that they hold.
 
 ghost use Rattle.std.specs.Prelude.{◌≡◌, ◌<◌, ◌≤◌, ◌+◌, ◌≤ℤ◌, ◌||◌, pos, suc, OnOk, IfOk, length, replicate};
-ghost use Rattle.yaml_round_documents.specs.Ranks.{label_of, AreBothRanked, AreDone, AreJudgedFrom, GivesRank, IsDue, IsJudged, IsRanking, IsWithin, KeepShapes, Ranked, RanksOn, AreLabels, IsSettled, LabelsTell, Tells};
+ghost use Rattle.yaml_round_documents.specs.Telling.{pair_keys};
+ghost use Rattle.yaml_round_documents.specs.Shapes.{list_of};
+ghost use Rattle.yaml_round_documents.specs.Ranks.{label_of, AreBothRanked, AreJudgedFrom, GivesRank, IfJudged, IsDue, IsJudged, IsRanking, KeepShapes, Ranked, RanksOn, AreLabels, IsSettled, LabelsTell, Tells};
 
 use crate::shape::{all_ranked, holds_ranked, id_of, narrowed, put_shape, rank_of};
-use crate::shapes::ShapeTable;
+use crate::shapes::{Name, ShapeTable};
 use std::alloc::{AllocError, Global};
 use std::mem;
 use yaml_emit_graph::{Turn, Walked, place_of, walk_nodes};
-use yaml_parse_model::yaml_document_t;
+use yaml_parse_model::{yaml_document_t, yaml_node_pair_t};
 
 /// The rank of each node by its place, 0 where it has none; the ranks of shapes; and the last rank
 /// that was given.
@@ -18,13 +20,6 @@ pub struct Ranks {
     shapes: ShapeTable,
     given: u32,
     alloc: Global,
-}
-
-// One of both.
-fn either(first: bool, second: bool) -> bool
-    ensures { result ≡ (first || second) }
-{
-    if first { true } else { second }
 }
 
 // Whether the node at a place is to get a rank: it has none, and all that it holds have ranks.
@@ -41,9 +36,9 @@ fn is_due(ranks: &[u32], document: &yaml_document_t, at: usize) -> bool
 }
 
 impl Ranks {
-    // No node has a rank.
+    /// No node has a rank.
     #[tactic(auto, using(crate::proofs::Labels::no_ranks))]
-    fn none(alloc: Global, document: &yaml_document_t) -> Result<Ranks, AllocError>
+    pub fn none(alloc: Global, document: &yaml_document_t) -> Result<Ranks, AllocError>
         ensures { IfOk result (λ r. IsRanking document.now.nodes r) }
     {
         Ok(Ranks {
@@ -55,8 +50,8 @@ impl Ranks {
     }
 
     // The rank of a shape, or the next one.
-    fn rank_of_shape(&mut self, shape: &[u32]) -> Result<u32, AllocError>
-        ensures gives { GivesRank self.old shape.now result self.new }
+    fn rank_of_shape(&mut self, shape: &Name) -> Result<u32, AllocError>
+        ensures gives { GivesRank self.old (list_of shape.now) result self.new }
         ensures table { self.new.table ≡ self.old.table }
     {
         match self.shapes.get(shape) {
@@ -66,8 +61,8 @@ impl Ranks {
                     return Err(AllocError);
                 }
                 let rank = self.given + 1;
-                let kept = Vec::from_slice(self.alloc, shape)?;
-                self.shapes.insert(kept, rank)?;
+                let rest = Vec::from_slice(self.alloc, &shape.2)?;
+                self.shapes.insert((shape.0, shape.1, rest), rank)?;
                 self.given = rank;
                 Ok(rank)
             }
@@ -78,7 +73,7 @@ impl Ranks {
     #[tactic(auto, using(crate::proofs::Labels::shapes_kept))]
     fn rank_node(
         &mut self,
-        room: &mut Vec<u32>,
+        room: &mut Name,
         document: &yaml_document_t,
         at: usize,
     ) -> Result<bool, AllocError>
@@ -99,11 +94,7 @@ impl Ranks {
 
     #[tactic(auto, using(crate::proofs::Labels::ranked_more, crate::proofs::Labels::none_ranked))]
     // Each node gets a rank, where it is due, the last one first.
-    fn rank_each(
-        &mut self,
-        room: &mut Vec<u32>,
-        document: &yaml_document_t,
-    ) -> Result<bool, AllocError>
+    fn rank_each(&mut self, room: &mut Name, document: &yaml_document_t) -> Result<bool, AllocError>
         requires ranking { IsRanking document.now.nodes self.old }
         requires small { length document.now.nodes ≤ 2147483647 }
         ensures { Ranked (AreJudgedFrom 0 document.now.nodes) document.now.nodes self.old result
@@ -114,7 +105,7 @@ impl Ranks {
         'nodes: while left > 0 {
             left -= 1;
             let one = self.rank_node(room, document, left)?;
-            any = either(one, any);
+            any = one | any;
         }
         Ok(any)
     }
@@ -123,7 +114,7 @@ impl Ranks {
     #[tactic(auto, using(crate::proofs::Labels::ranking_of, crate::proofs::Labels::shapes_of, crate::proofs::Labels::shapes_kept))]
     fn rank_id(
         &mut self,
-        room: &mut Vec<u32>,
+        room: &mut Name,
         document: &yaml_document_t,
         id: i32,
     ) -> Result<(), AllocError>
@@ -145,7 +136,7 @@ impl Ranks {
     #[tactic(auto, using(crate::proofs::Labels::shapes_kept))]
     fn rank_turn(
         &mut self,
-        room: &mut Vec<u32>,
+        room: &mut Name,
         document: &yaml_document_t,
         turn: Turn,
     ) -> Result<(), AllocError>
@@ -162,11 +153,7 @@ impl Ranks {
 
     // The same along a walk, which leaves a node after what it holds.
     #[tactic(auto, using(crate::proofs::Labels::shapes_kept, crate::proofs::Labels::shapes_along))]
-    fn rank_walked(
-        &mut self,
-        room: &mut Vec<u32>,
-        document: &yaml_document_t,
-    ) -> Result<(), AllocError>
+    fn rank_walked(&mut self, room: &mut Name, document: &yaml_document_t) -> Result<(), AllocError>
         requires ranking { IsRanking document.now.nodes self.old }
         requires small { length document.now.nodes ≤ 2147483647 }
         ensures { OnOk result (RanksOn document.now.nodes self.old self.new) }
@@ -187,7 +174,7 @@ impl Ranks {
             × AreJudgedFrom 0 document.now.nodes self.new.table.items
             × KeepShapes self.old.shapes self.new.shapes) }
     {
-        let mut room = Vec::new(self.alloc);
+        let mut room = (0, 0, Vec::new(self.alloc));
         self.rank_walked(&mut room, document)?;
         'passes: loop {
             match self.rank_each(&mut room, document) {
@@ -198,54 +185,49 @@ impl Ranks {
         }
     }
 
-    // Nodes of these numbers get ranks, where they are due.
+    // The keys of pairs get ranks, where they are due.
     #[tactic(auto, using(crate::proofs::Labels::shapes_kept, crate::proofs::Labels::shapes_along))]
-    fn rank_ids(&mut self, document: &yaml_document_t, ids: &[i32]) -> Result<(), AllocError>
+    fn rank_each_key(
+        &mut self,
+        document: &yaml_document_t,
+        pairs: &[yaml_node_pair_t],
+    ) -> Result<(), AllocError>
         requires ranking { IsRanking document.now.nodes self.old }
         requires small { length document.now.nodes ≤ 2147483647 }
         ensures { OnOk result (RanksOn document.now.nodes self.old self.new) }
     {
-        let mut room = Vec::new(self.alloc);
-        for at in 0..ids.len() {
-            self.rank_id(&mut room, document, ids[at])?;
+        let mut room = (0, 0, Vec::new(self.alloc));
+        for at in 0..pairs.len() {
+            self.rank_id(&mut room, document, pairs[at].key)?;
         }
         Ok(())
     }
 
-    // These nodes get ranks; or all do, where one of these holds others.
-    #[tactic(auto, using(crate::proofs::Labels::done_ranked, crate::proofs::Labels::done_judged, crate::proofs::Labels::ranked_first))]
-    fn rank_done(&mut self, document: &yaml_document_t, ids: &[i32]) -> Result<(), AllocError>
+    /// The keys of pairs get ranks that distinguish them; all nodes do, and from then on are `judged`, where a key holds others.
+    #[tactic(auto, using(crate::proofs::Labels::tells_ranked, crate::proofs::Labels::tells_all, crate::proofs::Labels::not_judged))]
+    pub fn rank_keys(
+        &mut self,
+        judged: &mut bool,
+        document: &yaml_document_t,
+        pairs: &[yaml_node_pair_t],
+    ) -> Result<(), AllocError>
         requires ranking { IsRanking document.now.nodes self.old }
+        requires judged { IfJudged document.now.nodes self.old judged.old }
         requires small { length document.now.nodes ≤ 2147483647 }
         ensures ranking { OnOk result (IsRanking document.now.nodes self.new) }
-        ensures done { OnOk result (AreDone ids.now document.now.nodes self.new.table.items) }
+        ensures judged { OnOk result (IfJudged document.now.nodes self.new judged.new) }
+        ensures tells { OnOk result (Tells (pair_keys pairs.now) document.now.nodes self.new) }
     {
-        self.rank_ids(document, ids)?;
-        if all_ranked(&self.table, ids) {
-            Ok(())
-        } else {
-            self.rank_all(document)
+        if *judged {
+            return Ok(());
         }
-    }
-
-    /// Ranks that distinguish these nodes of a document.
-    pub fn of(alloc: Global, document: &yaml_document_t, ids: &[i32]) -> Result<Ranks, AllocError>
-        requires { length document.now.nodes ≤ 2147483647 }
-        ensures tells { IfOk result (λ r. Tells ids.now document.now.nodes r) }
-        ensures within { IfOk result (λ r. IsWithin document.now.nodes r) }
-    {
-        let mut ranks = Ranks::none(alloc, document)?;
-        match ranks.rank_done(document, ids) {
-            Ok(()) => Ok(ranks),
-            Err(refusal) => Err(refusal),
+        self.rank_each_key(document, pairs)?;
+        if all_ranked(&self.table, pairs) {
+            return Ok(());
         }
-    }
-
-    /// All labels are below this.
-    pub fn label_count(&self) -> usize
-        ensures { result ≡ suc (self.now.given + length self.now.table.items) }
-    {
-        self.given as usize + self.table.len() + 1
+        self.rank_all(document)?;
+        *judged = true;
+        Ok(())
     }
 
     /// The label of a node: two nodes have one label exactly where they are the same as keys.

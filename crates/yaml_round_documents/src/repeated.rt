@@ -1,13 +1,15 @@
 //! The repeated keys.
 
-ghost use Rattle.std.specs.Prelude.{◌≡◌, ◌↔◌, ◌<◌, ◌≤◌, ◌++◌, [], suc, pos, OnOk, IfOk, length};
+ghost use Rattle.std.specs.Prelude.{◌≡◌, ◌↔◌, ◌<◌, ◌≤◌, ◌≤ℤ◌, ◌++◌, [], suc, pos, OnOk, IfOk, length};
 ghost use Rattle.yaml_parse_model.specs.Documents.{ArePairs, IsId, node_at};
 ghost use Rattle.yaml_emit_graph.specs.Graph.{body_of_id};
-ghost use Rattle.yaml_round_documents.specs.Telling.{AreSameKeys, HasRoom, all_keys, HaveDistinctKeys, IsFresh, Meets, TellsKey, TellsKeys, TellsMore, TellsNodes, end_at, is_plain_merge, keys_of, label_by, mark_at, pair_keys, told_of};
+ghost use Rattle.yaml_round_documents.specs.Ranks.{Tells};
+ghost use Rattle.yaml_round_documents.specs.Telling.{AreSameKeys, HaveDistinctKeys, IsTeller, Meets, TellsKey, TellsKeys, TellsMore, end_at, is_plain_merge, keys_of, label_by, mark_at, pair_keys, told_of};
 
-use crate::apart::all_apart;
+use crate::apart::are_apart;
 use crate::ranks::Ranks;
 use crate::shape::id_of;
+use crate::shapes::ShapeTable;
 use std::alloc::{AllocError, Global};
 use yaml_parse_model::{
     MAX_ENTRIES, ZERO_MARK, yaml_document_delete, yaml_document_get_node, yaml_document_t,
@@ -29,31 +31,18 @@ pub struct yaml_same_key_t {
     pub first_mark: yaml_mark_t,
 }
 
-/// A key that was met, in the mapping of that number; 0 means none.
-#[derive(Clone, Copy)]
-pub struct Slot {
-    mapping: usize,
-    key: i32,
-}
-
 // Where a node begins.
 fn mark_at(document: &yaml_document_t, id: i32) -> yaml_mark_t
     ensures { result ≡ mark_at (node_at document.now.nodes id) }
 {
-    match yaml_document_get_node(document, id) {
-        None => ZERO_MARK,
-        Some(node) => node.start_mark,
-    }
+    yaml_document_get_node(document, id).map_or(ZERO_MARK, |node| node.start_mark)
 }
 
 // Where a node ends.
 fn end_at(document: &yaml_document_t, id: i32) -> yaml_mark_t
     ensures { result ≡ end_at (node_at document.now.nodes id) }
 {
-    match yaml_document_get_node(document, id) {
-        None => ZERO_MARK,
-        Some(node) => node.end_mark,
-    }
+    yaml_document_get_node(document, id).map_or(ZERO_MARK, |node| node.end_mark)
 }
 
 fn is_plain_merge(document: &yaml_document_t, id: i32) -> bool
@@ -71,18 +60,35 @@ fn is_plain_merge(document: &yaml_document_t, id: i32) -> bool
     }
 }
 
-// The first key with that label that was met in that mapping; where there is none, this one is it
-// from now on.
-fn meet(slots: &mut [Slot], mapping: usize, label: usize, key: i32) -> Option<i32>
-    requires { label < length slots.old }
-    ensures { Meets slots.old mapping label key result slots.new }
+// The number of a node, which is kept as a natural one. Larger ones are refused as memory is.
+fn number_kept(number: u32) -> Result<i32, AllocError>
+    ensures { IfOk result (λ n. n ≡ pos number) }
 {
-    let slot = slots[label];
-    if slot.mapping == mapping {
-        return Some(slot.key);
+    if number <= 0x7fff_ffff {
+        Ok(number as i32)
+    } else {
+        Err(AllocError)
     }
-    slots[label] = Slot { mapping, key };
-    None
+}
+
+// The first key with that label that was met; where there is none, this one is it from now on.
+fn meet(
+    alloc: Global,
+    met: &mut ShapeTable,
+    label: usize,
+    key: i32,
+) -> Result<Option<i32>, AllocError>
+    requires { pos 1 ≤ℤ key }
+    ensures { Meets met.old label key result met.new }
+{
+    let name = (label as u64, 0, Vec::new(alloc));
+    match met.get(&name) {
+        Some(first) => Ok(Some(number_kept(first)?)),
+        None => {
+            met.insert(name, key as u32)?;
+            Ok(None)
+        }
+    }
 }
 
 // A key is reported where one before it is the same.
@@ -115,170 +121,123 @@ fn tell(
 
 // A pair's key is met, and reported where one before it is the same.
 fn tell_key(
+    alloc: Global,
     told: &mut Vec<yaml_same_key_t>,
     document: &yaml_document_t,
     ranks: &Ranks,
-    slots: &mut [Slot],
-    mapping: usize,
+    met: &mut ShapeTable,
     pair: yaml_node_pair_t,
 ) -> Result<(), AllocError>
     requires id { IsId (length document.now.nodes) pair.key }
-    requires room { HasRoom document.now.nodes ranks.now slots.old }
-    ensures { OnOk result (TellsKey document.now.nodes mapping (label_by ranks.now pair.key)
-        pair.key slots.old slots.new told.old.items told.new.items) }
+    ensures { OnOk result (TellsKey document.now.nodes (label_by ranks.now pair.key) pair.key
+        met.old met.new told.old.items told.new.items) }
 {
     let label = ranks.label_of(pair.key);
-    let first = meet(slots, mapping, label, pair.key);
+    let first = meet(alloc, met, label, pair.key)?;
     tell(told, document, pair.key, first)
 }
 
-// The keys of a mapping.
-#[tactic(auto, using(crate::proofs::Meeting::so_far_none, crate::proofs::Meeting::room_along))]
-fn tell_pairs(
+// The keys of a mapping, by ranks that distinguish them.
+#[tactic(auto, using(crate::proofs::Meeting::so_far_none))]
+fn tell_ranked(
+    alloc: Global,
     told: &mut Vec<yaml_same_key_t>,
     document: &yaml_document_t,
     ranks: &Ranks,
-    slots: &mut [Slot],
-    mapping: usize,
     pairs: &[yaml_node_pair_t],
 ) -> Result<(), AllocError>
     requires pairs { ArePairs (length document.now.nodes) pairs.now }
-    requires fresh { IsFresh slots.old mapping }
-    requires room { HasRoom document.now.nodes ranks.now slots.old }
-    ensures { OnOk result (TellsKeys document.now.nodes (label_by ranks.now) mapping
-        (pair_keys pairs.now) slots.old slots.new told.old.items told.new.items) }
-{
-    for place in 0..pairs.len() {
-        let pair = pairs[place];
-        tell_key(told, document, ranks, slots, mapping, pair)?;
-    }
-    Ok(())
-}
-
-// The keys of the node at a place, if it is a mapping.
-#[tactic(auto, using(crate::proofs::Meeting::no_keys))]
-fn tell_node(
-    told: &mut Vec<yaml_same_key_t>,
-    document: &yaml_document_t,
-    ranks: &Ranks,
-    slots: &mut [Slot],
-    place: usize,
-) -> Result<(), AllocError>
-    requires small { place < 2147483647 }
-    requires fresh { IsFresh slots.old (suc place) }
-    requires room { HasRoom document.now.nodes ranks.now slots.old }
-    ensures { OnOk result (TellsKeys document.now.nodes (label_by ranks.now) (suc place)
-        (keys_of (body_of_id document.now.nodes (pos (suc place)))) slots.old slots.new
-        told.old.items told.new.items) }
-{
-    match yaml_document_get_node(document, id_of(place)) {
-        None => Ok(()),
-        Some(node) => match &node.body {
-            yaml_node_body_t::No => Ok(()),
-            yaml_node_body_t::Scalar { .. } => Ok(()),
-            yaml_node_body_t::Sequence { .. } => Ok(()),
-            yaml_node_body_t::Mapping { pairs, .. } => {
-                tell_pairs(told, document, ranks, slots, place + 1, pairs)
-            }
-        },
-    }
-}
-
-// The keys of all mappings.
-#[tactic(auto, using(crate::proofs::Meeting::nodes_none, crate::proofs::Meeting::room_along))]
-fn tell_nodes(
-    told: &mut Vec<yaml_same_key_t>,
-    document: &yaml_document_t,
-    ranks: &Ranks,
-    slots: &mut [Slot],
-) -> Result<(), AllocError>
-    requires small { length document.now.nodes ≤ 2147483647 }
-    requires fresh { IsFresh slots.old 1 }
-    requires room { HasRoom document.now.nodes ranks.now slots.old }
-    ensures { OnOk result (TellsNodes document.now.nodes (label_by ranks.now) told.old.items
+    requires tells { Tells (pair_keys pairs.now) document.now.nodes ranks.now }
+    ensures { OnOk result (TellsKeys document.now.nodes (pair_keys pairs.now) told.old.items
         told.new.items) }
 {
-    for place in 0..document.node_count() {
-        tell_node(told, document, ranks, slots, place)?;
-    }
-    Ok(())
-}
-
-// The keys of pairs are put after others.
-#[tactic(auto, using(crate::proofs::Meeting::put_none, crate::proofs::Meeting::put_next, crate::proofs::Meeting::put_all))]
-fn put_keys(keys: &mut Vec<i32>, pairs: &[yaml_node_pair_t]) -> Result<(), AllocError>
-    ensures { OnOk result (keys.new.items ≡ keys.old.items ++ pair_keys pairs.now) }
-{
+    let mut met = ShapeTable::new(alloc);
     for place in 0..pairs.len() {
-        keys.push(pairs[place].key)?;
+        let pair = pairs[place];
+        tell_key(alloc, told, document, ranks, &mut met, pair)?;
     }
     Ok(())
 }
 
-// The same of the node at a place, if it is a mapping.
-#[tactic(auto, using(crate::proofs::Meeting::put_none))]
-fn put_keys_at(
-    keys: &mut Vec<i32>,
-    document: &yaml_document_t,
-    place: usize,
-) -> Result<(), AllocError>
-    requires small { place < 2147483647 }
-    ensures { OnOk result (keys.new.items ≡ keys.old.items
-        ++ keys_of (body_of_id document.now.nodes (pos (suc place)))) }
-{
-    match yaml_document_get_node(document, id_of(place)) {
-        None => Ok(()),
-        Some(node) => match &node.body {
-            yaml_node_body_t::Mapping { pairs, .. } => put_keys(keys, pairs),
-            yaml_node_body_t::No => Ok(()),
-            yaml_node_body_t::Scalar { .. } => Ok(()),
-            yaml_node_body_t::Sequence { .. } => Ok(()),
-        },
-    }
-}
-
-// The keys of all mappings.
-#[tactic(auto, using(crate::proofs::Meeting::more_keys, crate::proofs::Meeting::whole_keys))]
-fn all_keys(alloc: Global, document: &yaml_document_t) -> Result<Vec<i32>, AllocError>
-    requires small { length document.now.nodes ≤ 2147483647 }
-    ensures { IfOk result (λ keys. keys.items ≡ all_keys document.now.nodes) }
-{
-    let mut keys = Vec::new(alloc);
-    for place in 0..document.node_count() {
-        put_keys_at(&mut keys, document, place)?;
-    }
-    Ok(keys)
-}
-
-// The repeated keys, by ranks.
-#[tactic(auto, using(crate::proofs::Meeting::fresh_start, crate::proofs::Meeting::room_start))]
-fn tell_ranked(
+/// What says which keys of a document are equal: room for the numbers of texts, ranks of nodes, and whether all nodes were judged.
+#[derive(Drop)]
+struct Teller {
+    numbers: Vec<u64>,
+    ranks: Ranks,
+    judged: bool,
     alloc: Global,
-    document: &yaml_document_t,
-) -> Result<Vec<yaml_same_key_t>, AllocError>
-    requires { length document.now.nodes ≤ 2147483647 }
-    ensures { IfOk result (λ told. AreSameKeys document.now.nodes told.items) }
-{
-    let keys = all_keys(alloc, document)?;
-    let ranks = Ranks::of(alloc, document, &keys)?;
-    let mut slots = vec![in alloc; Slot { mapping: 0, key: 0 }; ranks.label_count()]?;
-    let mut told = Vec::new(alloc);
-    tell_nodes(&mut told, document, &ranks, &mut slots)?;
-    Ok(told)
 }
 
-// The same; ranks are given only where keys of one mapping have one text.
+impl Teller {
+    // The keys of a mapping. They get ranks only where two have one number of their texts.
+    #[tactic(auto, using(crate::proofs::Meeting::none_told))]
+    fn tell_pairs(
+        &mut self,
+        told: &mut Vec<yaml_same_key_t>,
+        document: &yaml_document_t,
+        pairs: &[yaml_node_pair_t],
+    ) -> Result<(), AllocError>
+        requires teller { IsTeller document.now.nodes self.old }
+        requires pairs { ArePairs (length document.now.nodes) pairs.now }
+        requires small { length document.now.nodes ≤ 2147483647 }
+        ensures teller { OnOk result (IsTeller document.now.nodes self.new) }
+        ensures tells { OnOk result (TellsKeys document.now.nodes (pair_keys pairs.now)
+            told.old.items told.new.items) }
+    {
+        if are_apart(&mut self.numbers, document, pairs)? {
+            return Ok(());
+        }
+        self.ranks.rank_keys(&mut self.judged, document, pairs)?;
+        tell_ranked(self.alloc, told, document, &self.ranks, pairs)
+    }
+
+    // The keys of the node at a place, if it is a mapping.
+    #[tactic(auto, using(crate::proofs::Meeting::no_keys))]
+    fn tell_node(
+        &mut self,
+        told: &mut Vec<yaml_same_key_t>,
+        document: &yaml_document_t,
+        place: usize,
+    ) -> Result<(), AllocError>
+        requires teller { IsTeller document.now.nodes self.old }
+        requires small { length document.now.nodes ≤ 2147483647 }
+        requires within { place < 2147483647 }
+        ensures teller { OnOk result (IsTeller document.now.nodes self.new) }
+        ensures tells { OnOk result (TellsKeys document.now.nodes
+            (keys_of (body_of_id document.now.nodes (pos (suc place)))) told.old.items
+            told.new.items) }
+    {
+        match yaml_document_get_node(document, id_of(place)) {
+            None => Ok(()),
+            Some(node) => match &node.body {
+                yaml_node_body_t::No => Ok(()),
+                yaml_node_body_t::Scalar { .. } => Ok(()),
+                yaml_node_body_t::Sequence { .. } => Ok(()),
+                yaml_node_body_t::Mapping { pairs, .. } => self.tell_pairs(told, document, pairs),
+            },
+        }
+    }
+}
+
+// The repeated keys.
+#[tactic(auto, using(crate::proofs::Labels::not_judged, crate::proofs::Meeting::nodes_none, crate::proofs::Meeting::nodes_next, crate::proofs::Meeting::nodes_all))]
 fn told_keys(alloc: Global, document: &yaml_document_t) -> Result<Vec<yaml_same_key_t>, AllocError>
     ensures { IfOk result (λ told. AreSameKeys document.now.nodes told.items) }
 {
     if document.node_count() > MAX_ENTRIES {
         return Err(AllocError);
     }
-    match all_apart(alloc, document) {
-        Err(refusal) => Err(refusal),
-        Ok(true) => Ok(Vec::new(alloc)),
-        Ok(false) => tell_ranked(alloc, document),
+    let mut teller = Teller {
+        numbers: Vec::new(alloc),
+        ranks: Ranks::none(alloc, document)?,
+        judged: false,
+        alloc,
+    };
+    let mut told = Vec::new(alloc);
+    for place in 0..document.node_count() {
+        teller.tell_node(&mut told, document, place)?;
     }
+    Ok(told)
 }
 
 /// The keys of a document's mappings, in order, to which an earlier key of the same mapping is the

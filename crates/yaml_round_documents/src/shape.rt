@@ -4,11 +4,16 @@ ghost use Rattle.std.specs.Prelude.{◌≡◌, ◌<◌, ◌++◌, ◌∷◌, ◌
 ghost use Rattle.yaml_parse_model.specs.Nodes.{body_of};
 ghost use Rattle.yaml_emit_graph.specs.Graph.{body_of_id, child_ids, number_at, tag_of_id};
 ghost use Rattle.yaml_round_documents.specs.Same.{text_of};
-ghost use Rattle.yaml_round_documents.specs.Ranks.{all_ranked, holds_ranked, kind_of, look, number_from, shape_of};
+ghost use Rattle.yaml_round_documents.specs.Ranks.{all_ranked, holds_ranked, kind_of, look, number_from, number_with, shape_of, with_held};
+ghost use Rattle.yaml_round_documents.specs.Shapes.{list_of};
+ghost use Rattle.yaml_round_documents.specs.Telling.{pair_keys};
 
+use crate::shapes::Name;
 use std::alloc::AllocError;
 use yaml_emit_graph::{Open, Walkable, place_of};
-use yaml_parse_model::{YAML_STR_TAG, yaml_document_get_node, yaml_document_t, yaml_node_body_t};
+use yaml_parse_model::{
+    YAML_STR_TAG, yaml_document_get_node, yaml_document_t, yaml_node_body_t, yaml_node_pair_t,
+};
 
 /// The number of a node by its place, or 0.
 pub fn rank_of(ranks: &[u32], id: i32) -> u32
@@ -31,16 +36,23 @@ pub fn narrowed(number: usize) -> Result<u32, AllocError>
     }
 }
 
+// A number, with another one after it.
+fn number_with(number: u64, more: u32) -> u64
+    ensures { result ≡ number_with number more }
+{
+    number
+        .wrapping_mul(0x100_0000_01b3)
+        .wrapping_add(u64::from(more))
+}
+
 /// A number of a text. Texts with two numbers are two; two texts hardly ever have one.
 #[tactic(auto, using(crate::proofs::Texts::number_next, crate::proofs::Texts::number_all))]
 pub(crate) fn number_of(text: &[u8]) -> u64
     ensures { result ≡ number_from 0 text.now }
 {
-    let mut number: u64 = 0;
+    let mut number = 0;
     for byte in text {
-        number = number
-            .wrapping_mul(0x100_0000_01b3)
-            .wrapping_add(u64::from(*byte));
+        number = number_with(number, u32::from(*byte));
     }
     number
 }
@@ -55,20 +67,20 @@ pub(crate) fn put_widened(room: &mut Vec<u32>, text: &[u8]) -> Result<(), AllocE
     Ok(())
 }
 
-// A number of the text, by which most shapes differ, how long the two texts are, and these.
-fn put_parts(room: &mut Vec<u32>, kind: u32, text: &[u8], tag: &[u8]) -> Result<(), AllocError>
-    ensures { OnOk result (room.new.items ≡ number_from 0 text.now % 0x100000000 ∷ kind
+// A number of the text, by which most shapes differ, the kind, how long the two texts are, and these.
+fn put_parts(room: &mut Name, kind: u32, text: &[u8], tag: &[u8]) -> Result<(), AllocError>
+    ensures { OnOk result (list_of room.new ≡ number_from 0 text.now ∷ kind
         ∷ length text.now ∷ length tag.now ∷ (text.now ++ tag.now)) }
 {
     let text_len = narrowed(text.len())?;
     let tag_len = narrowed(tag.len())?;
-    room.clear();
-    room.push((number_of(text) % 0x1_0000_0000) as u32)?;
-    room.push(kind)?;
-    room.push(text_len)?;
-    room.push(tag_len)?;
-    put_widened(room, text)?;
-    put_widened(room, tag)
+    room.0 = number_of(text);
+    room.1 = kind;
+    room.2.clear();
+    room.2.push(text_len)?;
+    room.2.push(tag_len)?;
+    put_widened(&mut room.2, text)?;
+    put_widened(&mut room.2, tag)
 }
 
 /// The number of a kind.
@@ -94,8 +106,8 @@ pub fn scalar_text(body: &yaml_node_body_t) -> &[u8]
 }
 
 // What a node looks like, except for what it holds.
-fn put_look(room: &mut Vec<u32>, document: &yaml_document_t, id: i32) -> Result<(), AllocError>
-    ensures { OnOk result (room.new.items ≡ look (body_of_id document.now.nodes id)
+fn put_look(room: &mut Name, document: &yaml_document_t, id: i32) -> Result<(), AllocError>
+    ensures { OnOk result (list_of room.new ≡ look (body_of_id document.now.nodes id)
         (tag_of_id document.now.nodes id)) }
 {
     match yaml_document_get_node(document, id) {
@@ -109,20 +121,22 @@ fn put_look(room: &mut Vec<u32>, document: &yaml_document_t, id: i32) -> Result<
     }
 }
 
-// The ranks of what a node holds.
+// The ranks of what a node holds, which change the number.
 #[tactic(auto, using(crate::proofs::KeysHolding::put_next, crate::proofs::KeysHolding::put_done, crate::proofs::KeysHolding::less_left))]
 fn put_held(
-    room: &mut Vec<u32>,
+    room: &mut Name,
     ranks: &[u32],
     document: &yaml_document_t,
     id: i32,
 ) -> Result<(), AllocError>
-    ensures { OnOk result (room.new.items ≡ room.old.items
-        ++ map (number_at ranks.now) (child_ids (body_of_id document.now.nodes id))) }
+    ensures { OnOk result (list_of room.new ≡ with_held (list_of room.old)
+        (map (number_at ranks.now) (child_ids (body_of_id document.now.nodes id)))) }
 {
     let mut index = 0;
     'held: while let Some(child) = document.next_child(Open { node: id, index }) {
-        room.push(rank_of(ranks, child))?;
+        let rank = rank_of(ranks, child);
+        room.0 = number_with(room.0, rank);
+        room.2.push(rank)?;
         index += 1;
     }
     Ok(())
@@ -130,12 +144,12 @@ fn put_held(
 
 // The shape of a node.
 fn put_shape_of(
-    room: &mut Vec<u32>,
+    room: &mut Name,
     ranks: &[u32],
     document: &yaml_document_t,
     id: i32,
 ) -> Result<(), AllocError>
-    ensures { OnOk result (room.new.items ≡ shape_of ranks.now document.now.nodes id) }
+    ensures { OnOk result (list_of room.new ≡ shape_of ranks.now document.now.nodes id) }
 {
     put_look(room, document, id)?;
     put_held(room, ranks, document, id)
@@ -156,13 +170,13 @@ pub(crate) fn holds_ranked(ranks: &[u32], document: &yaml_document_t, id: i32) -
     true
 }
 
-/// Whether all nodes of these numbers have ranks.
+/// Whether the keys of pairs have ranks.
 #[tactic(auto, using(crate::proofs::KeysHolding::have_next, crate::proofs::KeysHolding::have_not, crate::proofs::KeysHolding::have_all))]
-pub(crate) fn all_ranked(ranks: &[u32], ids: &[i32]) -> bool
-    ensures { result ≡ all_ranked ranks.now ids.now }
+pub(crate) fn all_ranked(ranks: &[u32], pairs: &[yaml_node_pair_t]) -> bool
+    ensures { result ≡ all_ranked ranks.now (pair_keys pairs.now) }
 {
-    for at in 0..ids.len() {
-        if rank_of(ranks, ids[at]) == 0 {
+    for at in 0..pairs.len() {
+        if rank_of(ranks, pairs[at].key) == 0 {
             return false;
         }
     }
@@ -179,13 +193,13 @@ pub(crate) fn id_of(at: usize) -> i32
 
 /// Puts the shape of the node at a place into a room.
 pub(crate) fn put_shape(
-    room: &mut Vec<u32>,
+    room: &mut Name,
     ranks: &[u32],
     document: &yaml_document_t,
     at: usize,
 ) -> Result<(), AllocError>
     requires { at < 2147483647 }
-    ensures { OnOk result (room.new.items ≡ shape_of ranks.now document.now.nodes
+    ensures { OnOk result (list_of room.new ≡ shape_of ranks.now document.now.nodes
         (pos (suc at))) }
 {
     put_shape_of(room, ranks, document, id_of(at))

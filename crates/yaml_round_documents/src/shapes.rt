@@ -1,16 +1,20 @@
-//! Shapes of nodes, each with its rank.
+//! Numbers by names: ranks by shapes, and what is known of pairs of numbers.
 
 ghost use Rattle.std.specs.Prelude.{◌≡◌, OnOk};
 ghost use Rattle.std.specs.FinMap as map;
+ghost use Rattle.yaml_round_documents.specs.Shapes.{list_of};
 
 use std::alloc::{AllocError, Global};
 use std::collections::BTreeMap;
 use std::marker::Model;
 
-/// Ranks by shapes.
+/// A name: two numbers, by which most differ, and further ones.
+pub type Name = (u64, u32, Vec<u32>);
+
+/// Numbers by names.
 #[derive(Drop)]
 pub struct ShapeTable {
-    entries: BTreeMap<Vec<u32>, u32>,
+    entries: BTreeMap<Name, u32>,
 }
 
 impl Model for ShapeTable {
@@ -29,7 +33,7 @@ impl Model for ShapeTable {
 }
 
 impl ShapeTable {
-    /// No shapes.
+    /// No names.
     pub fn new(alloc: Global) -> ShapeTable
         ensures { result ≡ map.empty }
     {
@@ -38,18 +42,18 @@ impl ShapeTable {
         }
     }
 
-    /// The rank of a shape.
-    pub fn get(&self, shape: &[u32]) -> Option<u32>
-        ensures { result ≡ map.get self.now shape.now }
+    /// The number of a name.
+    pub fn get(&self, name: &Name) -> Option<u32>
+        ensures { result ≡ map.get self.now (list_of name.now) }
     {
-        self.entries.get(shape).copied()
+        self.entries.get(name).copied()
     }
 
-    /// From now on the shape has that rank.
-    pub fn insert(&mut self, shape: Vec<u32>, rank: u32) -> Result<(), AllocError>
-        ensures { OnOk result (self.new ≡ map.insert self.old shape.items rank) }
+    /// From now on the name has that number.
+    pub fn insert(&mut self, name: Name, number: u32) -> Result<(), AllocError>
+        ensures { OnOk result (self.new ≡ map.insert self.old (list_of name) number) }
     {
-        self.entries.insert(shape, rank)?;
+        self.entries.insert(name, number)?;
         Ok(())
     }
 }

@@ -1,6 +1,6 @@
 //! What is reported of two nodes.
 
-ghost use Rattle.std.specs.Prelude.{◌≡◌, ◌==◌, ◌++◌, OnOk};
+ghost use Rattle.std.specs.Prelude.{◌≡◌, ◌==◌, ◌++◌, None, OnOk};
 ghost use Rattle.yaml_emit_graph.specs.Graph.{body_of_id, tag_of_id};
 ghost use Rattle.yaml_round_documents.specs.Same.{text_of};
 ghost use Rattle.yaml_round_documents.specs.Ranks.{kind_of};
@@ -19,10 +19,7 @@ use yaml_parse_model::{YAML_STR_TAG, yaml_document_get_node, yaml_document_t};
 fn node_kind(document: &yaml_document_t, id: i32) -> u32
     ensures { result ≡ kind_of (body_of_id document.now.nodes id) }
 {
-    match yaml_document_get_node(document, id) {
-        None => 0,
-        Some(node) => number_of_kind(&node.body),
-    }
+    yaml_document_get_node(document, id).map_or(0, |node| number_of_kind(&node.body))
 }
 
 // The text of a scalar.
@@ -79,6 +76,27 @@ pub(crate) fn own_cause(
     None
 }
 
+// Tells a cause, at a place.
+fn tell(
+    told: &mut Vec<yaml_node_difference_t>,
+    number: usize,
+    pair: yaml_node_match_t,
+    cause: yaml_node_cause_t,
+    place: usize,
+) -> Result<(), AllocError>
+    ensures { OnOk result (told.new.items ≡ told.old.items
+        ++ alone_at number pair cause place None) }
+{
+    told.push(yaml_node_difference_t {
+        pair: number,
+        first: pair.first,
+        second: pair.second,
+        cause,
+        place,
+    })?;
+    Ok(())
+}
+
 /// Tells a cause, if there is one.
 pub(crate) fn tell_cause(
     told: &mut Vec<yaml_node_difference_t>,
@@ -90,16 +108,7 @@ pub(crate) fn tell_cause(
 {
     match cause {
         None => Ok(()),
-        Some(cause) => {
-            told.push(yaml_node_difference_t {
-                pair: number,
-                first: pair.first,
-                second: pair.second,
-                cause,
-                place: 0,
-            })?;
-            Ok(())
-        }
+        Some(cause) => tell(told, number, pair, cause, 0),
     }
 }
 
@@ -117,16 +126,7 @@ fn tell_alone_at(
 {
     match partner {
         Some(_) => Ok(()),
-        None => {
-            told.push(yaml_node_difference_t {
-                pair: number,
-                first: pair.first,
-                second: pair.second,
-                cause,
-                place: at,
-            })?;
-            Ok(())
-        }
+        None => tell(told, number, pair, cause, at),
     }
 }
 

@@ -1,12 +1,13 @@
 //! The pairs of nodes that are compared, each once.
 
-ghost use Rattle.std.specs.Prelude.{◌≡◌, ◌<◌, ◌≤ℤ◌, ◌∷◌, [], pos, IfOk, OnOk, length, get_or, slice_get};
+ghost use Rattle.std.specs.Prelude.{◌≡◌, ◌<◌, ◌≤ℤ◌, ◌∷◌, [], pos, OnOk, length, get_or, slice_get};
 ghost use Rattle.yaml_round_documents.specs.Pairs.{listed, pair_at, pairs_by};
+ghost use Rattle.yaml_round_documents.specs.Shapes.{list_of};
 ghost use Rattle.yaml_round_documents.specs.Steps.{AreNumbered, AreNumbers, IsWalk, Meets, PushesOn, pair_name};
 
 use crate::ranks::BothLabels;
 use crate::shape::rank_of;
-use crate::shapes::ShapeTable;
+use crate::shapes::{Name, ShapeTable};
 use std::alloc::{AllocError, Global};
 
 /// A node of the first document, and the one of the second with which it is compared.
@@ -30,16 +31,13 @@ pub struct Walk {
     pub alloc: Global,
 }
 
-// A pair as a list.
-fn pair_name(alloc: Global, pair: yaml_node_match_t) -> Result<Vec<u32>, AllocError>
+// A pair as a name.
+fn pair_name(alloc: Global, pair: yaml_node_match_t) -> Name
     requires first { pos 1 ≤ℤ pair.first }
     requires second { pos 1 ≤ℤ pair.second }
-    ensures { IfOk result (λ n. n.items ≡ pair_name pair.first pair.second) }
+    ensures { list_of result ≡ pair_name pair.first pair.second }
 {
-    let mut name = Vec::new(alloc);
-    name.push(pair.first as u32)?;
-    name.push(pair.second as u32)?;
-    Ok(name)
+    (pair.first as u64, pair.second as u32, Vec::new(alloc))
 }
 
 // What is at a place, with the one with which it is matched.
@@ -94,7 +92,7 @@ impl Walk {
         requires second { pos 1 ≤ℤ pair.second }
         ensures { OnOk result (Meets pair self.old self.new) }
     {
-        let name = pair_name(self.alloc, pair)?;
+        let name = pair_name(self.alloc, pair);
         match self.met.get(&name) {
             Some(_) => Ok(()),
             None => {

@@ -1,7 +1,0 @@
-use Rattle.std.proofs.Common.{length}
-use Rattle.yaml_round_documents.specs.Telling.{label_by}
-use Rattle.yaml_round_documents.proofs.Meeting.{SoFar}
-use Rattle.yaml_round_documents.proofs.repeated.tell_pairs.Given as goal
-
-abbrev pub invariant-loop-place : goal.invariant-loop-place
-invariant-loop-place l = SoFar l.document.nodes (label_by l.ranks) l.mapping l.pairs l.initial.told.items (length l.initial.slots) l.place l.slots l.told.items

@@ -2,7 +2,7 @@
 use Rattle.std.proofs.Common.{◌≡◌, ◌⊎◌, ◌∙◌, ◌++◌, inl, inr, ap, sym, ℕ, List, [], None, Some, Result, Ok, Err}
 use Rattle.yaml_parse.specs.declared.yaml_encoding_t.{yaml_encoding_t}
 use Rattle.yaml_parse.specs.declared.yaml_fault_t.{yaml_fault_t}
-use Rattle.yaml_scan_types.specs.Faults.{Fault, fault_of, IsMemoryFault, parse_layers, Answers}
+use Rattle.yaml_scan_types.specs.Faults.{fault_of, IsMemoryFault, parse_layers, Answers}
 use Rattle.yaml_parse.specs.Remaining.{ParserRemaining}
 use Rattle.yaml_round_device.specs.declared.yaml_settings_t.{yaml_settings_t}
 use Rattle.yaml_round_engine.specs.Layers.{reformat_layers, list_layers}

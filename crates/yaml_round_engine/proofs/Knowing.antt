@@ -1,5 +1,5 @@
 -- What is known of a document in the making, event for event.
-use Rattle.std.proofs.Common.{◌≡◌, ◌∙◌, refl, ap, sym, subst, ℕ, ℤ, List, [], ◌∷◌, ◌++◌, Bool, true, false, cond, Option, None, Some, is_some, Vec}
+use Rattle.std.proofs.Common.{◌≡◌, ◌∙◌, refl, ap, sym, ℕ, ℤ, List, [], ◌∷◌, ◌++◌, Bool, true, false, cond, Option, None, Some, is_some, Vec}
 use Rattle.std.specs.Prelude.{◌||◌}
 use Rattle.std.specs.Global.{Global}
 use Rattle.std.specs.BTreeSet.{insert_key}

@@ -56,6 +56,16 @@ abbrev pub Parts : EventBody → EventBody → Option yaml_cause_t → Type 0
 Parts a b None = a ≡ b
 Parts a b (Some c) = (a ≡ b → ⊥) × (c ≡ cause_of a b)
 
+-- it is a scalar
+abbrev pub IsScalar : EventBody → Type 0
+IsScalar (event.scalar anchor tag value plain quoted style) = Unit {0}
+IsScalar _ = ⊥
+
+-- it is a document's start
+abbrev pub IsDocumentStart : EventBody → Type 0
+IsDocumentStart (event.document_start version directives implicit) = Unit {0}
+IsDocumentStart _ = ⊥
+
 -- the same of anchors and tags
 abbrev pub PartsNode : Option (List ℕ) → Option (List ℕ) → Option (List ℕ) → Option (List ℕ)
     → Option yaml_cause_t → Type 0

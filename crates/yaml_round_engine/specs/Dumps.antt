@@ -1,5 +1,5 @@
 -- How the dumps of documents compare, event by event.
-use Rattle.std.specs.Prelude.{◌≡◌, ◌<◌, ℕ, suc, ◌+◌, Bool, true, false, List, [], ◌∷◌, ◌++◌, length, map, Option, Some, None, Result, Ok, Err}
+use Rattle.std.specs.Prelude.{◌≡◌, ◌<◌, ℕ, suc, ◌+◌, Bool, true, false, List, [], ◌∷◌, ◌++◌, length, map, Option, Result, Ok, Err}
 use Rattle.std.specs.declared.alloc.AllocError.{AllocError}
 use Rattle.yaml_parse.specs.declared.yaml_encoding_t.{yaml_encoding_t}
 use Rattle.yaml_parse.specs.declared.yaml_fault_t.{yaml_fault_t}
@@ -97,28 +97,10 @@ pub record BothGive (first second first_new second_new : Dump) : Type 0 where
   pub dumps : AreDumps first_new second_new
   pub less : length (dump_left first_new) < length (dump_left first)
 
--- the second gives what the first gave last
-pub record GivesBeside (first second second_new : Dump) : Type 0 where
-  pub events : dump_left second ≡ given first ∷ dump_left second_new
-  pub dump : IsDump second_new
-
 -- the next events aren't the same, and differ in that
 pub record DifferNextIn (c : yaml_cause_t) (first second : Option EventBody) : Type 0 where
   pub differ : first ≡ second → ⊥
   pub cause : c ≡ next_cause first second
-
-abbrev pub TurnsBeside : Dump → Dump → Result Turn AllocError → Dump → Type 0
-TurnsBeside first second (Ok Same) second_new = GivesBeside first second second_new
-TurnsBeside first second (Ok End) second_new = ⊥
-TurnsBeside first second (Ok (Different c)) second_new = DifferNextIn c (Some (given first))
-    (next_of (dump_left second))
-TurnsBeside first second (Err e) second_new = Unit {0}
-
-abbrev pub TurnsAlone : Dump → Result Turn AllocError → Type 0
-TurnsAlone second (Ok Same) = ⊥
-TurnsAlone second (Ok End) = dump_left second ≡ []
-TurnsAlone second (Ok (Different c)) = DifferNextIn c None (next_of (dump_left second))
-TurnsAlone second (Err e) = Unit {0}
 
 abbrev pub TurnsOn : Dump → Dump → Result Turn AllocError → Dump → Dump → Type 0
 TurnsOn first second (Ok Same) first_new second_new = BothGive first second first_new second_new

@@ -64,13 +64,7 @@ fn behind_stream(event: EventRef<'_>) -> Beginning
             version_directive,
             tag_directives,
             implicit,
-        } => {
-            if implicit && has_none(version_directive, tag_directives) {
-                Beginning::Document
-            } else {
-                Beginning::Something
-            }
-        }
+        } if implicit && has_none(version_directive, tag_directives) => Beginning::Document,
         _ => Beginning::Something,
     }
 }
@@ -88,9 +82,8 @@ fn behind_document(event: EventRef<'_>) -> Beginning
             plain_implicit,
             style,
             ..
-        } => {
-            let empty = value.is_empty() && (plain_implicit && is_asked_plain(style));
-            if is_bare(anchor, tag) && empty {
+        } if is_bare(anchor, tag) => {
+            if value.is_empty() && (plain_implicit && is_asked_plain(style)) {
                 Beginning::Nothing
             } else {
                 Beginning::Something

@@ -12,7 +12,7 @@ use yaml_parse::{
     undefined_alias_fault, yaml_encoding_t, yaml_fault_t, yaml_found_t, yaml_memory_fault,
     yaml_origin_t,
 };
-use yaml_round_reading::{Reading, let_go, let_text_go, read_text, reading_of};
+use yaml_round_reading::{Reading, let_go, read_text, reading_of};
 
 // Reads to the end, or to what loading refuses or ends at.
 fn look_through(
@@ -43,18 +43,10 @@ pub fn load_out(alloc: Global, input: &[u8], from: yaml_encoding_t) -> Result<()
     ensures { Answers load_layers (λ done. done) (IsChecked from input.now) result }
 {
     let text = read_text(alloc, input, from);
-    match reading_of(alloc, &text) {
-        Err(fault) => {
-            let_text_go(text);
-            Err(fault)
-        }
-        Ok(mut reading) => {
-            let mut known = Known::new(alloc);
-            let answer = look_through(alloc, &mut reading, &mut known);
-            drop(known);
-            let_go(reading);
-            let_text_go(text);
-            answer
-        }
-    }
+    let mut reading = reading_of(alloc, &text)?;
+    let mut known = Known::new(alloc);
+    let answer = look_through(alloc, &mut reading, &mut known);
+    drop(known);
+    let_go(reading);
+    answer
 }

@@ -153,13 +153,12 @@ fn compared(
         second.old.parser.events trail.old trail.new) }
 {
     match same_events(first, second, trail, kept) {
-        Ok(true) => Ok(true),
         Ok(false) => match read_out_both(first, second) {
             Err(fault) => Err(fault),
             Ok(()) => Ok(false),
         },
         Err((yaml_side_t::Second, fault)) => Err(behind_first(first, fault)),
-        Err(fault) => Err(fault),
+        answer => answer,
     }
 }
 

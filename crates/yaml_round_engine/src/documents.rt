@@ -1,6 +1,6 @@
 //! Comparisons of loaded documents, by their dumps side by side: anchors count by what they share, and not by name.
 
-ghost use Rattle.yaml_round_engine.specs.Dumps.{IsDump, AreDumps, TurnsBeside, TurnsAlone, TurnsOn, Compares, ComparesAll, document_says, dump_left, documents_left};
+ghost use Rattle.yaml_round_engine.specs.Dumps.{AreDumps, TurnsOn, Compares, ComparesAll, document_says, dump_left, documents_left};
 
 use crate::cause::{parting, yaml_cause_t};
 use crate::dump::Dump;
@@ -20,41 +20,21 @@ pub(crate) enum Turn {
     Different(yaml_cause_t),
 }
 
-// The second dump's next event beside the one that the first gave.
-fn turned_beside(first: &Dump, second: &mut Dump) -> Result<Turn, AllocError>
-    requires { AreDumps first.now second.old }
-    ensures { TurnsBeside first.now second.old result second.new }
-{
-    if !second.next()? {
-        return Ok(Turn::Different(yaml_cause_t::OnlyFirst));
-    }
-    match parting(first.event(), second.event()) {
-        None => Ok(Turn::Same),
-        Some(cause) => Ok(Turn::Different(cause)),
-    }
-}
-
-// What the second dump has where the first is at its end.
-fn turned_alone(second: &mut Dump) -> Result<Turn, AllocError>
-    requires { IsDump second.old }
-    ensures { TurnsAlone second.old result }
-{
-    if second.next()? {
-        Ok(Turn::Different(yaml_cause_t::OnlySecond))
-    } else {
-        Ok(Turn::End)
-    }
-}
-
 // The next event of each dump.
 fn turned(first: &mut Dump, second: &mut Dump) -> Result<Turn, AllocError>
     requires { AreDumps first.old second.old }
     ensures { TurnsOn first.old second.old result first.new second.new }
 {
-    if first.next()? {
-        turned_beside(first, second)
-    } else {
-        turned_alone(second)
+    let one = first.next()?;
+    let other = second.next()?;
+    match (one, other) {
+        (true, true) => match parting(first.event(), second.event()) {
+            None => Ok(Turn::Same),
+            Some(cause) => Ok(Turn::Different(cause)),
+        },
+        (true, false) => Ok(Turn::Different(yaml_cause_t::OnlyFirst)),
+        (false, true) => Ok(Turn::Different(yaml_cause_t::OnlySecond)),
+        (false, false) => Ok(Turn::End),
     }
 }
 

@@ -15,7 +15,7 @@ use yaml_parse::{
     yaml_memory_fault, yaml_origin_t,
 };
 use yaml_round_device::yaml_settings_t;
-use yaml_round_reading::{Reading, let_go, let_text_go, read_text, reading_of};
+use yaml_round_reading::{Reading, let_go, read_text, reading_of};
 
 /// The next document, whose end is made implicit; nothing after the last.
 #[tactic(auto, using(crate::proofs::Reloading::loaded_document, crate::proofs::Reloading::loaded_last, crate::proofs::Reloading::load_refused))]
@@ -68,18 +68,10 @@ pub fn documents_of(
     ensures { Answers load_layers (λ ds. ds.items) (IsLoaded from input.now) result }
 {
     let text = read_text(alloc, input, from);
-    match reading_of(alloc, &text) {
-        Err(fault) => {
-            let_text_go(text);
-            Err(fault)
-        }
-        Ok(mut reading) => {
-            let answer = documents_from(alloc, &mut reading);
-            let_go(reading);
-            let_text_go(text);
-            answer
-        }
-    }
+    let mut reading = reading_of(alloc, &text)?;
+    let answer = documents_from(alloc, &mut reading);
+    let_go(reading);
+    answer
 }
 
 /// Drops loaded documents. It is a call, so that no owner's proof writes out the drop of all that a document holds.
@@ -131,11 +123,7 @@ pub fn written_documents(
     requires { All HasRoot documents.old.items }
     ensures { Answers emit_layers bytes_of (IsEachDump settings.now documents.old.items) result }
 {
-    match emitter_under(alloc, settings, true) {
-        Err(fault) => Err(fault),
-        Ok(mut emitter) => {
-            dump_stream(&mut emitter, documents);
-            finished(emitter)
-        }
-    }
+    let mut emitter = emitter_under(alloc, settings, true)?;
+    dump_stream(&mut emitter, documents);
+    finished(emitter)
 }

@@ -13,7 +13,7 @@ use yaml_parse::{
     EventRef, yaml_encoding_t, yaml_event_type_t, yaml_fault_t, yaml_found_t, yaml_mark_t,
 };
 use yaml_parse_model::ZERO_MARK;
-use yaml_round_reading::{Reading, let_go, let_text_go, read_text, reading_of, yaml_side_t};
+use yaml_round_reading::{Reading, let_go, read_text, reading_of, yaml_side_t};
 
 /// Where an event begins and ends, and what it is.
 #[derive(Clone, Copy)]
@@ -80,18 +80,10 @@ fn seen_at(
     ensures { FindsEvent number (events_of from input.now) (ending_of from input.now) result }
 {
     let text = read_text(alloc, input, from);
-    match reading_of(alloc, &text) {
-        Err(fault) => {
-            let_text_go(text);
-            Err(fault)
-        }
-        Ok(mut reading) => {
-            let answer = found_at(&mut reading, number);
-            let_go(reading);
-            let_text_go(text);
-            answer
-        }
-    }
+    let mut reading = reading_of(alloc, &text)?;
+    let answer = found_at(&mut reading, number);
+    let_go(reading);
+    answer
 }
 
 // The place, with what these two events say of it.

@@ -128,13 +128,8 @@ pub fn position_after(event: EventRef<'_>, at: OpeningPosition) -> OpeningPositi
                 tag_directives,
                 ..
             },
-        ) => {
-            if has_none(version_directive, tag_directives) {
-                OpeningPosition::Starts
-            } else {
-                OpeningPosition::Within
-            }
-        }
+        ) if has_none(version_directive, tag_directives) => OpeningPosition::Starts,
+        (OpeningPosition::Before, EventRef::DocumentStart { .. }) => OpeningPosition::Within,
         (OpeningPosition::Before, _) => OpeningPosition::Before,
         _ => OpeningPosition::Within,
     }

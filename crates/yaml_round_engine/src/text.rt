@@ -16,7 +16,7 @@ use std::alloc::Global;
 use yaml_emit::{yaml_emitter_output, yaml_emitter_t};
 use yaml_parse::{yaml_encoding_t, yaml_fault_t, yaml_found_t};
 use yaml_round_device::yaml_settings_t;
-use yaml_round_reading::{ReadText, Reading, let_go, let_text_go, read_out, read_text, reading_of};
+use yaml_round_reading::{ReadText, Reading, let_go, read_out, read_text, reading_of};
 
 // A text that has more than this many bytes for each byte of its input has outgrown it.
 const OUTGROWN: usize = 32;
@@ -28,14 +28,10 @@ const UNREACHED: usize = 1 << 58;
 fn judge(alloc: Global, text: &ReadText<'_>) -> Result<(), yaml_fault_t>
     ensures { Answers parse_layers (λ done. done) (IsJudged text.now.from text.now.bytes) result }
 {
-    match reading_of(alloc, text) {
-        Err(fault) => Err(fault),
-        Ok(mut reading) => {
-            let answer = read_out(&mut reading);
-            let_go(reading);
-            answer
-        }
-    }
+    let mut reading = reading_of(alloc, text)?;
+    let answer = read_out(&mut reading);
+    let_go(reading);
+    answer
 }
 
 // The most bytes that a text of that size may have from now on. Where it has outgrown its input, that is judged first, so that
@@ -124,18 +120,10 @@ pub fn written(
         ≡ comes_to_nothing form.new []) }
 {
     let text = read_text(alloc, input, from);
-    match reading_of(alloc, &text) {
-        Err(fault) => {
-            let_text_go(text);
-            Err(fault)
-        }
-        Ok(mut reading) => {
-            let answer = written_from(alloc, &text, &mut reading, settings, form);
-            let_go(reading);
-            let_text_go(text);
-            answer
-        }
-    }
+    let mut reading = reading_of(alloc, &text)?;
+    let answer = written_from(alloc, &text, &mut reading, settings, form);
+    let_go(reading);
+    answer
 }
 
 /// The text in pretty form, and whether the input begins with nothing; where it doesn't, the text reads back.

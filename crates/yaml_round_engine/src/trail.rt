@@ -26,11 +26,7 @@ pub struct Trail {
 pub(crate) fn one_more(number: u64) -> Result<u64, AllocError>
     ensures { IfOk result (λ next. next ≡ suc number) }
 {
-    if number == u64::MAX {
-        Err(AllocError)
-    } else {
-        Ok(number + 1)
-    }
+    number.checked_add(1).ok_or(AllocError)
 }
 
 // A copy of a text, where there is one.
@@ -39,10 +35,7 @@ fn copy_if(alloc: Global, text: Option<&[u8]>) -> Result<Option<Vec<u8>>, AllocE
 {
     match text {
         None => Ok(None),
-        Some(text) => {
-            let copy = Vec::from_slice(alloc, text)?;
-            Ok(Some(copy))
-        }
+        Some(text) => Ok(Some(Vec::from_slice(alloc, text)?)),
     }
 }
 

@@ -125,10 +125,7 @@ fn fault_in(emitter: &yaml_emitter_t) -> Option<yaml_fault_t>
     ensures is { option_map fault_of result ≡ emitter.now.fault }
     ensures limited { (f : Fault) → emitter.now.fault ≡ Some f → IsLimited emitter.now f }
 {
-    match yaml_emitter_fault(emitter) {
-        Some(fault) => Some(*fault),
-        None => None,
-    }
+    yaml_emitter_fault(emitter).copied()
 }
 
 /// The text, which passes no limit, or the emitter's fault, which names a limit or says that memory ran out.

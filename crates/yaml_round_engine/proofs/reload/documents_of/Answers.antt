@@ -4,7 +4,7 @@ use Rattle.yaml_round_content.specs.Input.{ReadsInput}
 use Rattle.yaml_round_reading.specs.Input.{Input}
 use Rattle.yaml_round_engine.proofs.reload.documents_of.Goals as goal
 
-pub returns-in-Ok : goal.returns-in-Ok
-returns-in-Ok c =
+pub returns : goal.returns
+returns c =
     c.documents_from-answer.ensures c.args.from c.args.input.now
-    (subst (λ (i : Input). ReadsInput i.from i.bytes c.in-Ok.reading.parser) c.read_text-text.ensures c.in-Ok.ensures.reads)
+    (subst (λ (i : Input). ReadsInput i.from i.bytes c.in_ok-reading.reading.parser) c.read_text-text.ensures c.in_ok-reading.ensures.reads)

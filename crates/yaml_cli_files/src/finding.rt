@@ -38,13 +38,9 @@ pub struct Finding<'a> {
 
 // A line and a column, from 1.
 fn numbers(place: Option<yaml_mark_t>) -> (Option<u64>, Option<u64>) {
-    match place {
-        Some(place) => (
-            Some(place.line.saturating_add(1)),
-            Some(place.column.saturating_add(1)),
-        ),
-        None => (None, None),
-    }
+    let line = place.map(|place| place.line.saturating_add(1));
+    let column = place.map(|place| place.column.saturating_add(1));
+    (line, column)
 }
 
 impl<'a> Finding<'a> {
@@ -83,22 +79,20 @@ impl<'a> Finding<'a> {
     }
 }
 
-// A text in a command of a workflow, or in a property of one.
+// A text in a command of a workflow, and whether it is in a property of one.
 #[derive(Clone, Copy)]
-struct Escaped<'a> {
-    text: &'a str,
-    is_property: bool,
-}
+struct Escaped<'a>(&'a str, bool);
 
 impl Display for Escaped<'_> {
     fn fmt<W: Write>(&self, f: &mut Formatter<W>) -> Formatted {
-        for c in self.text.chars() {
+        let Escaped(text, is_property) = *self;
+        for c in text.chars() {
             match c {
                 '%' => f.write_str("%25")?,
                 '\r' => f.write_str("%0D")?,
                 '\n' => f.write_str("%0A")?,
-                ':' if self.is_property => f.write_str("%3A")?,
-                ',' if self.is_property => f.write_str("%2C")?,
+                ':' if is_property => f.write_str("%3A")?,
+                ',' if is_property => f.write_str("%2C")?,
                 c => f.write_char(c)?,
             }
         }
@@ -118,14 +112,8 @@ fn push_line(text: &mut String, finding: &Finding<'_>) -> Result<(), AllocError>
 
 fn push_command(text: &mut String, finding: &Finding<'_>) -> Result<(), AllocError> {
     let kind = finding.kind;
-    let name = Escaped {
-        text: finding.file,
-        is_property: true,
-    };
-    let problem = Escaped {
-        text: finding.problem,
-        is_property: false,
-    };
+    let name = Escaped(finding.file, true);
+    let problem = Escaped(finding.problem, false);
     write!(text, "::error file={name}")?;
     if let (Some(line), Some(column)) = (finding.line, finding.column) {
         write!(text, ",line={line},col={column}")?;

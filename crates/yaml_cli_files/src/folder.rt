@@ -52,12 +52,7 @@ impl Choice<'_, '_> {
 }
 
 fn is_in(globs: &[Glob<'_>], path: &str) -> bool {
-    for glob in globs {
-        if glob.matches(path) {
-            return true;
-        }
-    }
-    false
+    globs.iter().any(|glob| glob.matches(path))
 }
 
 // What an entry of a folder is.

@@ -42,10 +42,8 @@ pub const NO_ROOM: WrongGlob = WrongGlob {
 
 fn split_char(text: &str) -> Option<(char, &str)> {
     let mut chars = text.chars();
-    match chars.next() {
-        Some(c) => Some((c, chars.as_str())),
-        None => None,
-    }
+    let c = chars.next()?;
+    Some((c, chars.as_str()))
 }
 
 // The first range of a set, `a-z` or a character, and what is after it.
@@ -57,34 +55,21 @@ fn split_range(chars: &str) -> Option<(char, char, &str)> {
     }
 }
 
-// Whether the set has the character.
-fn has_char(chars: &str, c: char) -> bool {
+// Whether some range of the set is so.
+fn has_range<F: Fn(char, char) -> bool>(chars: &str, is_so: F) -> bool
+    requires { F.IsAlwaysCallable is_so }
+{
     let mut left = chars;
     for _ in 0..chars.len() {
         let Some((low, high, rest)) = split_range(left) else {
             break;
         };
-        if low <= c && c <= high {
+        if is_so(low, high) {
             return true;
         }
         left = rest;
     }
     false
-}
-
-// Whether the set, or a range in it, has no character.
-fn has_nothing(chars: &str) -> bool {
-    let mut left = chars;
-    for _ in 0..chars.len() {
-        let Some((low, high, rest)) = split_range(left) else {
-            break;
-        };
-        if high < low {
-            return true;
-        }
-        left = rest;
-    }
-    chars.is_empty()
 }
 
 impl Part<'_> {
@@ -93,7 +78,9 @@ impl Part<'_> {
         match self {
             Part::Char(own) => *own == c,
             Part::One | Part::Some => c != '/',
-            Part::Set { chars, negated } => c != '/' && has_char(chars, c) != *negated,
+            Part::Set { chars, negated } => {
+                c != '/' && has_range(chars, |low, high| low <= c && c <= high) != *negated
+            }
             Part::All | Part::Folders => true,
         }
     }
@@ -103,26 +90,22 @@ impl Part<'_> {
         if let Part::Folders = self {
             return Some(text.split_once('/')?.1);
         }
-        match split_char(text) {
-            Some((c, rest)) if self.takes(c) => Some(rest),
-            _ => None,
-        }
+        let (c, rest) = split_char(text)?;
+        self.takes(c).then_some(rest)
     }
 }
 
 // The set that a text begins with, after its `[`, and what is after its `]`.
 fn split_set(text: &str) -> Result<Option<(Part<'_>, &str)>, &'static str> {
-    let (negated, text) = match text.strip_prefix('!') {
-        Some(text) => (true, text),
-        None => (false, text),
+    let left = text.strip_prefix('!').unwrap_or(text);
+    let negated = left.len() < text.len();
+    let Some((chars, rest)) = left.split_once(']') else {
+        return Err("the [ has no ]");
     };
-    match text.split_once(']') {
-        None => Err("the [ has no ]"),
-        Some((chars, _)) if has_nothing(chars) => Err(
-            "no character is in this set, or in a range of it",
-        ),
-        Some((chars, rest)) => Ok(Some((Part::Set { chars, negated }, rest))),
+    if chars.is_empty() || has_range(chars, |low, high| high < low) {
+        return Err("no character is in this set, or in a range of it");
     }
+    Ok(Some((Part::Set { chars, negated }, rest)))
 }
 
 // The part that a text begins with, and what is after it, or what is wrong there; nothing at the end. A folder's name can begin there
@@ -178,10 +161,7 @@ fn stands_for(parts: &[Part<'_>], text: &str) -> bool {
                 near = None;
                 Some(Again { parts: rest, text })
             }
-            [part, rest @ ..] => match part.after(text) {
-                Some(text) => Some(Again { parts: rest, text }),
-                None => None,
-            },
+            [part, parts @ ..] => part.after(text).map(|text| Again { parts, text }),
             [] => None,
         };
         at = match next {
@@ -249,10 +229,7 @@ impl<'a> Glob<'a> {
         let text = if self.has_slash {
             path
         } else {
-            match path.rsplit_once('/') {
-                Some((_, name)) => name,
-                None => path,
-            }
+            path.rsplit_once('/').map_or(path, |split| split.1)
         };
         stands_for(self.parts.as_slice(), text)
     }

@@ -25,12 +25,8 @@ const OPEN: [(&'static str, &'static str); 4] = [
 
 // Whether a line begins with what git puts before the first of two texts.
 fn has_conflict(input: &[u8]) -> bool {
-    for line in input.split(|byte| *byte == b'\n') {
-        if line.starts_with(b"<<<<<<<") {
-            return true;
-        }
-    }
-    false
+    let mut lines = input.split(|byte| *byte == b'\n');
+    lines.any(|line| line.starts_with(b"<<<<<<<"))
 }
 
 // Whether the two characters come one after the other among that many of the line.

@@ -98,13 +98,9 @@ impl<G: Engine, H: Files, R: Read, W: Write, E: Write> Run<'_, '_, '_, '_, G, H,
         if self.order.told.get_flag("all") {
             return self.engine.differences(alloc, by, first, second);
         }
-        match self.engine.diff(alloc, by, first, second) {
-            Ok(found) => match Vec::from_iter(alloc, found) {
-                Ok(found) => Ok(found),
-                Err(_) => Err((Side::First, yaml_memory_fault(yaml_origin_t::Loader))),
-            },
-            Err(refused) => Err(refused),
-        }
+        let found = self.engine.diff(alloc, by, first, second)?;
+        let short = (Side::First, yaml_memory_fault(yaml_origin_t::Loader));
+        Vec::from_iter(alloc, found).map_err(|_| short)
     }
 
     // Shows the places where they differ, if there is room for it; returns the status.
@@ -118,10 +114,7 @@ impl<G: Engine, H: Files, R: Read, W: Write, E: Write> Run<'_, '_, '_, '_, G, H,
         let lists = self.order.told.get_flag("all");
         let mut text = String::new(alloc);
         match push_all(alloc, &mut text, found, lists, first, second) {
-            Ok(()) => {
-                let written = self.streams.output.write_all(text.as_bytes());
-                self.streams.flushed(written).max(FAILED)
-            }
+            Ok(()) => self.streams.put_text(&text, FAILED),
             Err(_) => UNJUDGED,
         }
     }
@@ -145,41 +138,33 @@ impl<G: Engine, H: Files, R: Read, W: Write, E: Write> Run<'_, '_, '_, '_, G, H,
         }
     }
 
-    // Compares the first file with what was read of the second one.
-    fn compare_with(&mut self, first: Source<'_>, name: &str, input: &[u8]) -> u8 {
-        let second = Source {
-            name,
-            input,
-            ..first
+    // The status of the comparison, or that of a file that can't be read.
+    fn compared(&mut self) -> Result<u8, u8> {
+        let told = self.order.told;
+        let name = told.get_str("first").unwrap_or("");
+        let other = told.get_str("second").unwrap_or("");
+        let from = self.order.judging.manner.from;
+        let input = self.read_side(name, Side::First)?;
+        let input = input.as_slice();
+        let first = Source { name, input, from };
+        let read = if name == STANDARD && other == STANDARD {
+            None
+        } else {
+            Some(self.read_side(other, Side::Second)?)
         };
-        match self.order.does {
+        let second = Source {
+            name: other,
+            input: read.as_deref().unwrap_or(input),
+            from,
+        };
+        Ok(match self.order.does {
             Does::Diff => self.tell_diff(first, second),
             _ => self.tell_same(first, second),
-        }
-    }
-
-    // Compares what was read of the first file with the second one.
-    fn compare_read(&mut self, first: Source<'_>) -> u8 {
-        let name = self.order.told.get_str("second").unwrap_or("");
-        if first.name == STANDARD && name == STANDARD {
-            return self.compare_with(first, name, first.input);
-        }
-        match self.read_side(name, Side::Second) {
-            Ok(input) => self.compare_with(first, name, input.as_slice()),
-            Err(status) => status,
-        }
+        })
     }
 
     /// Compares two files; returns the status.
     pub(crate) fn compare(&mut self) -> u8 {
-        let name = self.order.told.get_str("first").unwrap_or("");
-        let from = self.order.judging.manner.from;
-        match self.read_side(name, Side::First) {
-            Ok(input) => {
-                let input = input.as_slice();
-                self.compare_read(Source { name, input, from })
-            }
-            Err(status) => status,
-        }
+        self.compared().unwrap_or_else(|status| status)
     }
 }

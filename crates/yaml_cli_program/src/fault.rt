@@ -35,7 +35,7 @@ pub(crate) enum Fault<'a> {
     NotPassedOn(Failure),
     // Of a file, whose name is before it.
     #[error("{0}")]
-    Failed(Failure),
+    Failed(#[from] Failure),
     #[error("longer than 1073741824 bytes")]
     TooLong,
     #[error("out of memory")]
@@ -81,12 +81,6 @@ pub(crate) enum Fault<'a> {
         width: i32,
         least: i32,
     },
-}
-
-impl From<Failure> for Fault<'_> {
-    fn from(error: Failure) -> Self {
-        Fault::Failed(error)
-    }
 }
 
 impl From<AllocError> for Fault<'_> {

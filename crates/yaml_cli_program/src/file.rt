@@ -77,21 +77,6 @@ fn make_room(piece: &mut Vec<u8>, count: usize) -> Result<(), AllocError> {
     piece.resize(more.max(READ_FIRST).min(READ_AHEAD), 0)
 }
 
-// Puts one piece more of the file after the bytes; returns whether there was one.
-fn read_piece<R: Read>(
-    file: &mut R,
-    piece: &mut Vec<u8>,
-    bytes: &mut Vec<u8>,
-) -> Result<bool, Fault<'static>> {
-    make_room(piece, bytes.len())?;
-    let count = read_again(file, piece.as_mut_slice())?;
-    bytes.extend_from_slice(piece.get(..count).unwrap_or(b""))?;
-    if bytes.len() as u64 > INPUT_LIMIT {
-        return Err(Fault::TooLong);
-    }
-    Ok(count > 0)
-}
-
 // Reads a file to its end.
 fn read_whole<R: Read>(
     alloc: Global,
@@ -100,8 +85,13 @@ fn read_whole<R: Read>(
 ) -> Result<Vec<u8>, Fault<'static>> {
     let mut bytes = Vec::new(alloc);
     for _ in 0..u64::MAX {
-        if !read_piece(file, piece, &mut bytes)? {
-            break;
+        make_room(piece, bytes.len())?;
+        let count = read_again(file, piece.as_mut_slice())?;
+        bytes.extend_from_slice(piece.get(..count).unwrap_or(b""))?;
+        match bytes.len() as u64 {
+            _ if count == 0 => break,
+            0..=INPUT_LIMIT => {}
+            _ => return Err(Fault::TooLong),
         }
     }
     Ok(bytes)
@@ -145,11 +135,7 @@ impl<R, W: Write, E: Write> Streams<R, W, E> {
     /// Ends what was written to standard output; returns the status: 0, or that of an output that takes
     /// no more, which is reported except where nobody reads it.
     pub(crate) fn flushed(&mut self, written: Result<(), Error>) -> u8 {
-        let flushed = match written {
-            Ok(()) => self.output.flush(),
-            Err(error) => Err(error),
-        };
-        match flushed {
+        match written.and_then(|()| self.output.flush()) {
             Ok(()) => 0,
             Err(error) if error.kind() == ErrorKind::BrokenPipe => FAILED,
             Err(error) => {

@@ -9,6 +9,7 @@ use crate::program::Run;
 use std::io::{Read, Write};
 use std::rt::Files;
 use yaml_cli_files::{Folder, Found, Source, file_path};
+use yaml_scan_types::yaml_fault_t;
 
 // How a file's name is shown.
 fn shown_name<'n>(order: &'n Order<'_, '_>, name: &'n str) -> &'n str {
@@ -19,30 +20,26 @@ fn shown_name<'n>(order: &'n Order<'_, '_>, name: &'n str) -> &'n str {
 }
 
 impl<G: Engine, H: Files, R: Read, W: Write, E: Write> Run<'_, '_, '_, '_, G, H, R, W, E> {
-    // Judges a file by its keys, too.
-    fn judge_keys(&mut self, source: Source<'_>) -> u8 {
-        match self
-            .engine
-            .repeated_keys(self.streams.alloc, source.from, source.input)
-        {
-            Ok(keys) => self.repeated(source, keys.as_slice()),
-            Err(fault) => self.refused(source, &fault),
-        }
-    }
-
-    fn judge_text(&mut self, source: Source<'_>) -> u8 {
+    // The status of a text that is judged, or written in normal form.
+    fn judged(&mut self, source: Source<'_>) -> Result<u8, yaml_fault_t> {
+        let alloc = self.streams.alloc;
         if !self.order.judges {
             return self.write_normal(source);
         }
         if self.order.told.get_flag("unique-keys") {
-            return self.judge_keys(source);
+            let keys = self.engine.repeated_keys(alloc, source.from, source.input)?;
+            return Ok(self.repeated(source, keys.as_slice()));
         }
-        match self
-            .engine
-            .judge(self.streams.alloc, &self.order.judging, source.input)
-        {
-            Ok(true) => 0,
-            Ok(false) => self.name_file(source.name, FAILED),
+        if self.engine.judge(alloc, &self.order.judging, source.input)? {
+            Ok(0)
+        } else {
+            Ok(self.name_file(source.name, FAILED))
+        }
+    }
+
+    fn judge_text(&mut self, source: Source<'_>) -> u8 {
+        match self.judged(source) {
+            Ok(status) => status,
             Err(fault) => self.refused(source, &fault),
         }
     }
@@ -118,17 +115,15 @@ impl<G: Engine, H: Files, R: Read, W: Write, E: Write> Run<'_, '_, '_, '_, G, H,
     // Judges the files that a list names, or reports why it names none.
     fn judge_listed(&mut self, list: &str) {
         let before = self.streams.status;
-        let why = match self.streams.whole_of(self.rt, list) {
+        match self.streams.whole_of(self.rt, list) {
             Ok(names) if names.is_empty() || names.as_slice().contains(&0) => {
                 self.judge_names(names.as_slice());
-                None
             }
-            Ok(_names) => Some(Fault::Unlisted),
-            Err(why) => Some(why),
-        };
-        if let Some(why) = why {
-            let status = self.unread(list, &why);
-            self.streams.settle(status);
+            read => {
+                let why = read.err().unwrap_or(Fault::Unlisted);
+                let status = self.unread(list, &why);
+                self.streams.settle(status);
+            }
         }
         self.streams.status = self.streams.status.max(before);
     }

@@ -122,65 +122,47 @@ const FORMATS: [(&'static str, Format); 4] = [
     ("json", Format::Json),
 ];
 
-// An option whose value is a word: how a wrong one is called, and the words that help names.
+// An option whose value is a word: its name, how a wrong one is called, and the words that help names.
 #[derive(Clone, Copy)]
-struct Worded {
-    name: &'static str,
-    what: &'static str,
-    known: &'static str,
-}
+struct Worded(&'static str, &'static str, &'static str);
 
-const BREAK: Worded = Worded {
-    name: "break",
-    what: "break",
-    known: "lf, cr, crlf",
-};
+const BREAK: Worded = Worded("break", "break", "lf, cr, crlf");
 
-const ENCODING: Worded = Worded {
-    name: "encoding",
-    what: "encoding",
-    known: "utf8, utf16le, utf16be",
-};
+const ENCODING: Worded = Worded("encoding", "encoding", "utf8, utf16le, utf16be");
 
-const FROM: Worded = Worded {
-    name: "from",
-    what: "input encoding",
-    known: "auto, utf8, utf16le, utf16be",
-};
+const FROM: Worded = Worded("from", "input encoding", "auto, utf8, utf16le, utf16be");
 
-const FORMAT: Worded = Worded {
-    name: "format",
-    what: "format",
-    known: "full, line, github, json",
-};
+const FORMAT: Worded = Worded("format", "format", "full, line, github, json");
 
 // The words of a command, and the first thing that is wrong with them.
-struct Words<'o, 'a> {
+#[derive(Drop)]
+struct Words<'o, 'a, 'w> {
     told: &'o ArgMatches<'a>,
     // What is known is listed where a word isn't: the lines of the other commands are fixed.
     lists: bool,
-    wrong: Option<Fault<'a>>,
+    wrong: &'w mut Option<Fault<'a>>,
 }
 
-impl<'a> Words<'_, 'a> {
+impl<'a> Words<'_, 'a, '_> {
     fn keep(&mut self, wrong: Fault<'a>) {
         if self.wrong.is_none() {
-            self.wrong = Some(wrong);
+            *self.wrong = Some(wrong);
         }
     }
 
     // What the rows have for the word of an option; the usual one where the command doesn't have it, or they don't have the word.
     fn option_in<T: Copy>(&mut self, option: Worded, rows: &[(&'static str, T)], usual: T) -> T {
-        let Some(word) = self.told.get_str(option.name) else {
+        let Worded(name, what, known) = option;
+        let Some(word) = self.told.get_str(name) else {
             return usual;
         };
-        let Worded { what, known, .. } = option;
-        match row_of(rows, word) {
-            Some(value) => return value,
+        let value = row_of(rows, word);
+        match value {
+            Some(_) => {}
             None if self.lists => self.keep(Fault::UnknownOf { what, word, known }),
             None => self.keep(Fault::Unknown { what, word }),
         }
-        usual
+        value.unwrap_or(usual)
     }
 }
 
@@ -198,7 +180,7 @@ fn numbers_in(told: &ArgMatches<'_>) -> yaml_settings_t {
 }
 
 // The break is judged first, then the encoding, then how the input is encoded.
-fn manner_in(words: &mut Words<'_, '_>) -> Manner {
+fn manner_in(words: &mut Words<'_, '_, '_>) -> Manner {
     let usual = numbers_in(words.told);
     let line_break = words.option_in(BREAK, &BREAKS, usual.line_break);
     let encoding = words.option_in(ENCODING, &ENCODINGS, usual.encoding);
@@ -251,7 +233,7 @@ fn misused(does: Does, told: &ArgMatches<'_>) -> Option<&'static str> {
 }
 
 // Keeps a width that an indent is too large for. Where numbers are fixed such a width counts as another one.
-fn judge_width(words: &mut Words<'_, '_>, settings: &yaml_settings_t) {
+fn judge_width(words: &mut Words<'_, '_, '_>, settings: &yaml_settings_t) {
     let least = settings.indent.saturating_mul(2).saturating_add(1);
     if settings.width < least {
         words.keep(Fault::Width {
@@ -261,14 +243,14 @@ fn judge_width(words: &mut Words<'_, '_>, settings: &yaml_settings_t) {
     }
 }
 
-/// What the arguments of a command ask for, and the first thing that is wrong with them: what is
+/// What the arguments of a command ask for. The first thing that is wrong with them is kept: what is
 /// known to be wrong already, then how many files one is given, then its other arguments.
 pub(crate) fn order_in<'o, 'a>(
     name: &'a str,
     told: &'o ArgMatches<'a>,
     choice: Choice<'o, 'a>,
-    wrong: Option<Fault<'a>>,
-) -> (Order<'o, 'a>, Option<Fault<'a>>) {
+    wrong: &mut Option<Fault<'a>>,
+) -> Order<'o, 'a> {
     let does = does_of(name).unwrap_or(Does::Check);
     let mut words = Words {
         told,
@@ -278,25 +260,18 @@ pub(crate) fn order_in<'o, 'a>(
     if let Some(why) = misused(does, told) {
         words.keep(Fault::Usage { command: name, why });
     }
-    let judging = judging_in(does, &mut words);
-    let order = Order {
+    Order {
         does,
         told,
         files: told.get_strs("files").unwrap_or(&[]),
         judges: matches!(does, Does::Check) || told.get_flag("check"),
         writes: told.get_flag("write"),
-        judging,
+        judging: judging_in(does, &mut words),
         choice,
-    };
-    let Words {
-        told: _,
-        lists: _,
-        wrong,
-    } = words;
-    (order, wrong)
+    }
 }
 
-fn judging_in(does: Does, words: &mut Words<'_, '_>) -> Judging {
+fn judging_in(does: Does, words: &mut Words<'_, '_, '_>) -> Judging {
     let manner = manner_in(words);
     let format = words.option_in(FORMAT, &FORMATS, Format::Full);
     if matches!(does, Does::Norm) {

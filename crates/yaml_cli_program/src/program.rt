@@ -108,7 +108,7 @@ fn follow<G: Engine, H: Files, R: Read + Drop, W: Write + Drop, E: Write + Drop>
         included: included.as_slice(),
         excluded: excluded.as_slice(),
     };
-    let (order, wrong) = order_in(name, told, choice, wrong);
+    let order = order_in(name, told, choice, &mut wrong);
     if let Some(wrong) = wrong {
         return told_wrong(&mut streams.errors, &wrong);
     }

@@ -42,33 +42,27 @@ impl<G: Engine, H: Files, R: Read, W: Write, E: Write> Run<'_, '_, '_, '_, G, H,
     }
 
     // Writes the normal form of a file in its place, unless it has that form, or has a comment.
-    fn write_in_place(&mut self, source: Source<'_>, text: &[u8]) -> u8 {
+    fn write_in_place(&mut self, source: Source<'_>, text: &[u8]) -> Result<u8, yaml_fault_t> {
         if source.name == STANDARD {
-            return self.unread(source.name, &Fault::NoPlace);
+            return Ok(self.unread(source.name, &Fault::NoPlace));
         }
         if text == source.input {
-            return 0;
+            return Ok(0);
         }
-        match self.comment_of(source) {
-            Ok(None) => self.put_in_place(source.name, text),
-            Ok(Some(place)) => self.has_comment(source.name, place),
-            Err(fault) => self.refused(source, &fault),
+        match self.comment_of(source)? {
+            None => Ok(self.put_in_place(source.name, text)),
+            Some(place) => Ok(self.has_comment(source.name, place)),
         }
     }
 
-    /// Writes the normal form of a file; returns the status.
-    pub(crate) fn write_normal(&mut self, source: Source<'_>) -> u8 {
-        let manner = &self.order.judging.manner;
-        match self
-            .engine
-            .normalize(self.streams.alloc, manner, source.input)
-        {
-            Ok(text) if self.order.writes => self.write_in_place(source, text.as_slice()),
-            Ok(text) => {
-                let written = self.streams.output.write_all(text.as_slice());
-                self.streams.flushed(written)
-            }
-            Err(fault) => self.refused(source, &fault),
+    /// Writes the normal form of a file; returns the status, or why it has none.
+    pub(crate) fn write_normal(&mut self, source: Source<'_>) -> Result<u8, yaml_fault_t> {
+        let (alloc, manner) = (self.streams.alloc, &self.order.judging.manner);
+        let text = self.engine.normalize(alloc, manner, source.input)?;
+        if self.order.writes {
+            return self.write_in_place(source, text.as_slice());
         }
+        let written = self.streams.output.write_all(text.as_slice());
+        Ok(self.streams.flushed(written))
     }
 }

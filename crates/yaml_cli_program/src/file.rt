@@ -88,10 +88,11 @@ fn read_whole<R: Read>(
         make_room(piece, bytes.len())?;
         let count = read_again(file, piece.as_mut_slice())?;
         bytes.extend_from_slice(piece.get(..count).unwrap_or(b""))?;
-        match bytes.len() as u64 {
-            _ if count == 0 => break,
-            0..=INPUT_LIMIT => {}
-            _ => return Err(Fault::TooLong),
+        if bytes.len() as u64 > INPUT_LIMIT {
+            return Err(Fault::TooLong);
+        }
+        if count == 0 {
+            break;
         }
     }
     Ok(bytes)
